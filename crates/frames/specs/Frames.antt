@@ -1,0 +1,47 @@
+-- Frames of every kind: what bytes read as, what a frame is written in, and which frames there are.
+use Prim.Native.Nat.{ℕ}
+use lib.Dec.{eqb}
+use mathlib.Core.Bool.{cond}
+use mathlib.Core.List.{List}
+use Rattle.frames.specs.Changes.{change-layout, change-spelling, ValidChange}
+use Rattle.frames.specs.Fields.{byte, answered}
+use Rattle.frames.specs.Votes.{contribution-layout, contribution-spelling, ValidContribution, fill-layout, fill-spelling, ValidFill}
+use Rattle.frames.specs.declared.fault.FrameFault.{FrameFault}
+use Rattle.frames.specs.declared.fault.FrameFault.the-variants.{Kind as UnknownKind}
+use Rattle.frames.specs.declared.frame.Frame.{Frame}
+use Rattle.frames.specs.declared.frame.Frame.the-variants.{Change, PlaceContribution, PlaceFill, QuestionContribution, QuestionFill}
+use Rattle.std.specs.declared.result.Result.{Result}
+use Rattle.std.specs.declared.result.Result.the-variants.{Ok, Err}
+use Rattle.values.specs.Kinds.{Kind}
+use Rattle.values.specs.Marks.{mark-kind}
+
+-- a record as a frame; a refusal stays
+abbrev pub framed : {F G : Type 0} → (F → G) → Result F FrameFault → Result G FrameFault
+framed make (Ok f) = Ok (make f)
+framed make (Err fault) = Err fault
+
+-- what bytes read as: the kind is the first byte (0, which is no kind, where there is none), and decides the layout
+abbrev pub reading : {Q : Type 0} → Kind Q → ℕ → List ℕ → Result (Frame Q) FrameFault
+reading K n bytes =
+    cond (eqb (byte bytes 0) 1) (framed Change (answered (change-layout n bytes)))
+    (cond (eqb (byte bytes 0) (mark-kind .contribution)) (framed PlaceContribution (answered (contribution-layout mark-kind n bytes)))
+    (cond (eqb (byte bytes 0) (mark-kind .fill)) (framed PlaceFill (answered (fill-layout mark-kind n bytes)))
+    (cond (eqb (byte bytes 0) (K .contribution)) (framed QuestionContribution (answered (contribution-layout K n bytes)))
+    (cond (eqb (byte bytes 0) (K .fill)) (framed QuestionFill (answered (fill-layout K n bytes)))
+    (Err UnknownKind)))))
+
+-- the bytes that a frame is written in
+abbrev pub spelling : {Q : Type 0} → Kind Q → Frame Q → List ℕ
+spelling K (Change c) = change-spelling c
+spelling K (PlaceContribution c) = contribution-spelling mark-kind c
+spelling K (PlaceFill f) = fill-spelling mark-kind f
+spelling K (QuestionContribution c) = contribution-spelling K c
+spelling K (QuestionFill f) = fill-spelling K f
+
+-- the frames that there are in a fleet of n machines
+abbrev pub Valid : {Q : Type 0} → Kind Q → ℕ → Frame Q → Type 0
+Valid K n (Change c) = ValidChange n c
+Valid K n (PlaceContribution c) = ValidContribution mark-kind n c
+Valid K n (PlaceFill f) = ValidFill mark-kind n f
+Valid K n (QuestionContribution c) = ValidContribution K n c
+Valid K n (QuestionFill f) = ValidFill K n f

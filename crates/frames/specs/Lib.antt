@@ -1,0 +1,6 @@
+pub mod Faults
+pub mod Fields
+pub mod Clocks
+pub mod Changes
+pub mod Votes
+pub mod Frames

@@ -1,0 +1,79 @@
+-- Contributions and fills, over any value kind: the same text for places and questions.
+use Prim.Native.Nat.{ℕ, _≤_}
+use lib.Dec.{eqb}
+use lib.ListN.{length}
+use mathlib.Core.Bool.{Bool, true}
+use mathlib.Core.List.{List, [], _∷_}
+use mathlib.Core.Path.{_≡_}
+use Rattle.frames.specs.Fields.{Layout, row, byte, word, high, low, within}
+use Rattle.frames.specs.declared.frame.Contribution.{Contribution}
+use Rattle.frames.specs.declared.frame.Fill.{Fill}
+use Rattle.values.specs.Kinds.{Kind}
+
+abbrev pub contribution-layout : {V : Type 0} → Kind V → ℕ → List ℕ → Layout (Contribution V)
+contribution-layout K n bytes =
+    record
+    { whole = eqb (length bytes) 8
+    ; fields =
+        row 1 1 (within 1 n (byte bytes 1))
+        ∷ row 2 2 (within 1 (K .highest) (word bytes 2))
+        ∷ row 4 2 (within 1 60000 (word bytes 4))
+        ∷ row 6 2 (K .reads n (byte bytes 6) (byte bytes 7))
+        ∷ []
+    ; shown =
+        record
+        { sender = byte bytes 1
+        ; ballot = word bytes 2
+        ; round = word bytes 4
+        ; value = K .value (byte bytes 6) (byte bytes 7)
+        }
+    }
+
+abbrev pub contribution-spelling : {V : Type 0} → Kind V → Contribution V → List ℕ
+contribution-spelling K c =
+    K .contribution
+    ∷ c .sender
+    ∷ high (c .ballot)
+    ∷ low (c .ballot)
+    ∷ high (c .round)
+    ∷ low (c .round)
+    ∷ K .high (c .value)
+    ∷ K .low (c .value)
+    ∷ []
+
+pub record ValidContribution {V : Type 0} (K : Kind V) (n : ℕ) (c : Contribution V) : Type 0 where
+  pub sender-least : 1 ≤ c .sender
+  pub sender-most : c .sender ≤ n
+  pub ballot-least : 1 ≤ c .ballot
+  pub ballot-most : c .ballot ≤ K .highest
+  pub round-least : 1 ≤ c .round
+  pub round-most : c .round ≤ 60000
+  pub value-exists : K .exists n (c .value) ≡ true
+
+abbrev pub fill-layout : {V : Type 0} → Kind V → ℕ → List ℕ → Layout (Fill V)
+fill-layout K n bytes =
+    record
+    { whole = eqb (length bytes) 6
+    ; fields =
+        row 1 1 (within 1 n (byte bytes 1))
+        ∷ row 2 2 (within 1 (K .highest) (word bytes 2))
+        ∷ row 4 2 (K .reads n (byte bytes 4) (byte bytes 5))
+        ∷ []
+    ; shown =
+        record
+        { sender = byte bytes 1
+        ; ballot = word bytes 2
+        ; value = K .value (byte bytes 4) (byte bytes 5)
+        }
+    }
+
+abbrev pub fill-spelling : {V : Type 0} → Kind V → Fill V → List ℕ
+fill-spelling K f =
+    K .fill ∷ f .sender ∷ high (f .ballot) ∷ low (f .ballot) ∷ K .high (f .value) ∷ K .low (f .value) ∷ []
+
+pub record ValidFill {V : Type 0} (K : Kind V) (n : ℕ) (f : Fill V) : Type 0 where
+  pub sender-least : 1 ≤ f .sender
+  pub sender-most : f .sender ≤ n
+  pub ballot-least : 1 ≤ f .ballot
+  pub ballot-most : f .ballot ≤ K .highest
+  pub value-exists : K .exists n (f .value) ≡ true

@@ -1,0 +1,46 @@
+// The records that frames carry, and the enum over all frames.
+use values::mark::Mark;
+
+// The forerunners of a change, as a vector clock: at index j - 1 the count of machine j's pair, or 0 where no pair names j.
+// A pair of machine j and count c says that the changes 1 to c of j come before this one.
+#[derive(Clone, Copy)]
+pub struct Forerunners {
+    pub counts: [u8; 9],
+}
+
+// A change of a setting, as its author posted it. Author and number together are its mark.
+#[derive(Clone, Copy)]
+pub struct Change {
+    pub author: u8,
+    pub number: u8,
+    pub setting: u16,
+    pub level: i16,
+    pub forerunners: Forerunners,
+}
+
+// What a sender says in one round of a ballot: a place or a question, by the kind of its value.
+#[derive(Clone, Copy)]
+pub struct Contribution<V> {
+    pub sender: u8,
+    pub ballot: u16,
+    pub round: u16,
+    pub value: V,
+}
+
+// What a sender has filled a ballot with.
+#[derive(Clone, Copy)]
+pub struct Fill<V> {
+    pub sender: u8,
+    pub ballot: u16,
+    pub value: V,
+}
+
+// Every frame. A place's value is a mark; Q is the kind of a question's value.
+#[derive(Clone, Copy)]
+pub enum Frame<Q> {
+    Change(Change),
+    PlaceContribution(Contribution<Mark>),
+    PlaceFill(Fill<Mark>),
+    QuestionContribution(Contribution<Q>),
+    QuestionFill(Fill<Q>),
+}

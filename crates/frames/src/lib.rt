@@ -1,0 +1,4 @@
+// The radio frames: what machines say to each other. A frame is read from bytes and written into bytes, and has one spelling.
+pub mod fault;
+pub mod frame;
+pub mod read;
