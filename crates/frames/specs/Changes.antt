@@ -22,25 +22,34 @@ machines-in bytes = take (pairs bytes) (drop 8 bytes)
 abbrev pub counts-in : List ℕ → List ℕ
 counts-in bytes = drop (pairs bytes) (drop 8 bytes)
 
+abbrev pub fixed-rows : ℕ → List ℕ → List Row
+fixed-rows n bytes =
+    row 2 1 (within 1 n (byte bytes 2))
+    ∷ row 3 1 (within 1 40 (byte bytes 3))
+    ∷ row 4 2 (within 0 999 (word bytes 4))
+    ∷ row 6 2 true
+    ∷ []
+
+abbrev pub pair-rows : ℕ → List ℕ → List Row
+pair-rows n bytes =
+    machine-rows n (byte bytes 2) 8 0 (machines-in bytes) ++ count-rows (8 + pairs bytes) (counts-in bytes)
+
+abbrev pub change-in : List ℕ → Change
+change-in bytes =
+    record
+    { author = byte bytes 2
+    ; number = byte bytes 3
+    ; setting = word bytes 4
+    ; level = signed-of (byte bytes 6) (byte bytes 7)
+    ; forerunners = record { counts = clock-of 9 1 (machines-in bytes) (counts-in bytes) }
+    }
+
+abbrev pub change-whole : List ℕ → Bool
+change-whole bytes = leb (pairs bytes) 8 && eqb (length bytes) (8 + 2 * pairs bytes)
+
 abbrev pub change-layout : ℕ → List ℕ → Layout Change
 change-layout n bytes =
-    record
-    { whole = leb (pairs bytes) 8 && eqb (length bytes) (8 + 2 * pairs bytes)
-    ; fields =
-        row 2 1 (within 1 n (byte bytes 2))
-        ∷ row 3 1 (within 1 40 (byte bytes 3))
-        ∷ row 4 2 (within 0 999 (word bytes 4))
-        ∷ row 6 2 true
-        ∷ (machine-rows n (byte bytes 2) 8 0 (machines-in bytes) ++ count-rows (8 + pairs bytes) (counts-in bytes))
-    ; shown =
-        record
-        { author = byte bytes 2
-        ; number = byte bytes 3
-        ; setting = word bytes 4
-        ; level = signed-of (byte bytes 6) (byte bytes 7)
-        ; forerunners = record { counts = clock-of 9 1 (machines-in bytes) (counts-in bytes) }
-        }
-    }
+    record { whole = change-whole bytes; fields = fixed-rows n bytes ++ pair-rows n bytes; shown = change-in bytes }
 
 -- the bytes that a change is written in
 abbrev pub change-spelling : Change → List ℕ

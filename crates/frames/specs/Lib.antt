@@ -4,3 +4,4 @@ pub mod Clocks
 pub mod Changes
 pub mod Votes
 pub mod Frames
+pub mod Heads

@@ -5,21 +5,22 @@ use lib.ListN.{length}
 use mathlib.Core.Bool.{Bool, true}
 use mathlib.Core.List.{List, [], _∷_}
 use mathlib.Core.Path.{_≡_}
-use Rattle.frames.specs.Fields.{Layout, row, byte, word, high, low, within}
+use Rattle.frames.specs.Fields.{Row, Layout, row, byte, word, high, low, within}
 use Rattle.frames.specs.declared.frame.Contribution.{Contribution}
 use Rattle.frames.specs.declared.frame.Fill.{Fill}
 use Rattle.values.specs.Kinds.{Kind}
+
+-- both begin, behind the kind byte, with the sender and the ballot's number
+abbrev pub with-head : {V : Type 0} → Kind V → ℕ → List ℕ → List Row → List Row
+with-head K n bytes rows = row 1 1 (within 1 n (byte bytes 1)) ∷ row 2 2 (within 1 (K .highest) (word bytes 2)) ∷ rows
 
 abbrev pub contribution-layout : {V : Type 0} → Kind V → ℕ → List ℕ → Layout (Contribution V)
 contribution-layout K n bytes =
     record
     { whole = eqb (length bytes) 8
     ; fields =
-        row 1 1 (within 1 n (byte bytes 1))
-        ∷ row 2 2 (within 1 (K .highest) (word bytes 2))
-        ∷ row 4 2 (within 1 60000 (word bytes 4))
-        ∷ row 6 2 (K .reads n (byte bytes 6) (byte bytes 7))
-        ∷ []
+        with-head K n bytes
+        (row 4 2 (within 1 60000 (word bytes 4)) ∷ row 6 2 (K .reads n (byte bytes 6) (byte bytes 7)) ∷ [])
     ; shown =
         record
         { sender = byte bytes 1
@@ -54,11 +55,7 @@ abbrev pub fill-layout : {V : Type 0} → Kind V → ℕ → List ℕ → Layout
 fill-layout K n bytes =
     record
     { whole = eqb (length bytes) 6
-    ; fields =
-        row 1 1 (within 1 n (byte bytes 1))
-        ∷ row 2 2 (within 1 (K .highest) (word bytes 2))
-        ∷ row 4 2 (K .reads n (byte bytes 4) (byte bytes 5))
-        ∷ []
+    ; fields = with-head K n bytes (row 4 2 (K .reads n (byte bytes 4) (byte bytes 5)) ∷ [])
     ; shown =
         record
         { sender = byte bytes 1

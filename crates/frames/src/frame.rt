@@ -18,6 +18,14 @@ pub struct Change {
     pub forerunners: Forerunners,
 }
 
+impl Change {
+    // The first byte of a change.
+    pub const KIND: u8 = 1;
+
+    // The highest setting.
+    pub const LAST_SETTING: u16 = 999;
+}
+
 // What a sender says in one round of a ballot: a place or a question, by the kind of its value.
 #[derive(Clone, Copy)]
 pub struct Contribution<V> {

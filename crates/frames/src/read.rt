@@ -1,18 +1,46 @@
 // Reading a frame: bytes to a record, or the first refusal that fits.
-ghost use Rattle.frames.specs.Fields.{answered};
-ghost use Rattle.frames.specs.Votes.{contribution-layout, fill-layout};
+ghost use Rattle.frames.specs.Fields.{answered, first-bad, unless-bad};
+ghost use Rattle.frames.specs.Votes.{contribution-layout, fill-layout, with-head};
+ghost use Rattle.frames.specs.Heads.{head-in};
+ghost use Prim.Native.Nat.{_≤_};
+ghost use lib.ListN.{length};
+ghost use mathlib.Core.List.{[]};
+ghost use Rattle.frames.specs.Frames.{reading};
 ghost use mathlib.Core.Path.{_≡_};
 use crate::fault::FrameFault;
+use crate::change::read_change;
+use crate::frame::Change;
+use crate::frame::Frame;
 use crate::frame::Contribution;
 use crate::frame::Fill;
 use values::fleet_size::FleetSize;
+use values::kind::QuestionKind;
 use values::kind::ValueKind;
+use values::mark::Mark;
+use values::mark::MarkKind;
 
 // The highest round of a ballot.
 pub const LAST_ROUND: u16 = 60000;
 
-fn in_range(x: u16, most: u16) -> bool {
-    1 <= x && x <= most
+// Behind the kind byte a contribution and a fill have the same two fields.
+struct Head {
+    sender: u8,
+    ballot: u16,
+}
+
+fn read_head<V: ValueKind>(fleet: FleetSize, bytes: &[u8]) -> Result<Head, FrameFault>
+    requires { ⌜ 4 ≤ length (now bytes) ⌝ }
+    ensures { λ r. ⌜ r ≡ unless-bad (first-bad (with-head (V·ValueKind .kind) (fleet .machines) (now (bytes .entry)) [])) (head-in (now (bytes .entry))) ⌝ }
+{
+    let sender = bytes[1];
+    if sender < 1 || fleet.machines < sender {
+        return Err(FrameFault::Field(1));
+    }
+    let ballot = u16::from_be_bytes([bytes[2], bytes[3]]);
+    if ballot < 1 || V::highest_number() < ballot {
+        return Err(FrameFault::Field(2));
+    }
+    Ok(Head { sender, ballot })
 }
 
 // A contribution to a ballot of the kind V, whatever the first byte is.
@@ -22,14 +50,7 @@ pub fn read_contribution<V: ValueKind>(fleet: FleetSize, bytes: &[u8]) -> Result
     if bytes.len() != 8 {
         return Err(FrameFault::Length);
     }
-    let sender = bytes[1];
-    if sender < 1 || fleet.machines < sender {
-        return Err(FrameFault::Field(1));
-    }
-    let ballot = u16::from_be_bytes([bytes[2], bytes[3]]);
-    if ballot < 1 || V::highest_number() < ballot {
-        return Err(FrameFault::Field(2));
-    }
+    let Head { sender, ballot } = read_head::<V>(fleet, bytes)?;
     let round = u16::from_be_bytes([bytes[4], bytes[5]]);
     if round < 1 || LAST_ROUND < round {
         return Err(FrameFault::Field(4));
@@ -37,5 +58,42 @@ pub fn read_contribution<V: ValueKind>(fleet: FleetSize, bytes: &[u8]) -> Result
     match V::read(fleet.machines, bytes[6], bytes[7]) {
         Some(value) => Ok(Contribution { sender, ballot, round, value }),
         None => Err(FrameFault::Field(6)),
+    }
+}
+
+// A fill of a ballot of the kind V, whatever the first byte is.
+pub fn read_fill<V: ValueKind>(fleet: FleetSize, bytes: &[u8]) -> Result<Fill<V>, FrameFault>
+    ensures { λ r. ⌜ r ≡ answered (fill-layout (V·ValueKind .kind) (fleet .machines) (now (bytes .entry))) ⌝ }
+{
+    if bytes.len() != 6 {
+        return Err(FrameFault::Length);
+    }
+    let Head { sender, ballot } = read_head::<V>(fleet, bytes)?;
+    match V::read(fleet.machines, bytes[4], bytes[5]) {
+        Some(value) => Ok(Fill { sender, ballot, value }),
+        None => Err(FrameFault::Field(4)),
+    }
+}
+
+// Any frame, with Q as the kind of a question's value.
+pub fn read<Q: QuestionKind>(fleet: FleetSize, bytes: &[u8]) -> Result<Frame<Q>, FrameFault>
+    ensures answer { λ r. ⌜ r ≡ reading (Q·ValueKind .kind) (fleet .machines) (now (bytes .entry)) ⌝ }
+{
+    if bytes.len() == 0 {
+        return Err(FrameFault::Kind);
+    }
+    let kind = bytes[0];
+    if kind == Change::KIND {
+        Ok(Frame::Change(read_change(fleet, bytes)?))
+    } else if kind == Mark::CONTRIBUTION {
+        Ok(Frame::PlaceContribution(read_contribution(fleet, bytes)?))
+    } else if kind == Mark::FILL {
+        Ok(Frame::PlaceFill(read_fill(fleet, bytes)?))
+    } else if kind == Q::contribution_kind() {
+        Ok(Frame::QuestionContribution(read_contribution(fleet, bytes)?))
+    } else if kind == Q::fill_kind() {
+        Ok(Frame::QuestionFill(read_fill(fleet, bytes)?))
+    } else {
+        Err(FrameFault::Kind)
     }
 }
