@@ -51,18 +51,23 @@ abbrev pub change-layout : ℕ → List ℕ → Layout Change
 change-layout n bytes =
     record { whole = change-whole bytes; fields = fixed-rows n bytes ++ pair-rows n bytes; shown = change-in bytes }
 
--- the bytes that a change is written in
-abbrev pub change-spelling : Change → List ℕ
-change-spelling c =
+-- the bytes that a change is written in: eight before the pairs, then the machine numbers, then the counts
+abbrev pub head-spelling : Change → ℕ → List ℕ
+head-spelling c m =
     1
-    ∷ length (counts-of (c .forerunners .counts))
+    ∷ m
     ∷ c .author
     ∷ c .number
     ∷ high (c .setting)
     ∷ low (c .setting)
     ∷ signed-high (c .level)
     ∷ signed-low (c .level)
-    ∷ (machines-of 1 (c .forerunners .counts) ++ counts-of (c .forerunners .counts))
+    ∷ []
+
+abbrev pub change-spelling : Change → List ℕ
+change-spelling c =
+    head-spelling c (length (counts-of (c .forerunners .counts)))
+    ++ (machines-of 1 (c .forerunners .counts) ++ counts-of (c .forerunners .counts))
 
 -- a change that there can be in a fleet of n machines
 pub record ValidChange (n : ℕ) (c : Change) : Type 0 where

@@ -5,3 +5,4 @@ pub mod Changes
 pub mod Votes
 pub mod Frames
 pub mod Heads
+pub mod Writing

@@ -2,4 +2,6 @@
 pub mod change;
 pub mod fault;
 pub mod frame;
+pub mod pairs;
 pub mod read;
+pub mod write;

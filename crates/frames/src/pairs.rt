@@ -1,0 +1,38 @@
+// The forerunners of a change as the pairs of a frame.
+ghost use Prim.Native.Nat.{_≤_};
+ghost use Rattle.frames.specs.Clocks.{counts-of, machines-of};
+ghost use lib.ListN.{length, take};
+ghost use mathlib.Core.Path.{_≡_};
+use crate::frame::Forerunners;
+
+// The machine numbers of the pairs, rising, and their counts in the same order; `len` of each, then zeros.
+#[derive(Clone, Copy)]
+pub struct Pairs {
+    pub len: usize,
+    pub machines: [u8; 9],
+    pub counts: [u8; 9],
+}
+
+impl Forerunners {
+    pub fn pairs(&self) -> Pairs
+        ensures machines { λ r. ⌜ take (r .len) (r .machines) ≡ machines-of 1 (now (self .entry) .counts) ⌝ }
+        ensures counts { λ r. ⌜ take (r .len) (r .counts) ≡ counts-of (now (self .entry) .counts) ⌝ }
+        ensures len { λ r. ⌜ r .len ≡ length (counts-of (now (self .entry) .counts)) ⌝ }
+        ensures few { λ r. ⌜ r .len ≤ 9 ⌝ }
+    {
+        let mut len: usize = 0;
+        let mut machines = [0u8; 9];
+        let mut counts = [0u8; 9];
+        let clock: &[u8] = &self.counts;
+        let mut machine: u8 = 1;
+        for count in clock {
+            if *count != 0 {
+                machines[len] = machine;
+                counts[len] = *count;
+                len += 1;
+            }
+            machine += 1;
+        }
+        Pairs { len, machines, counts }
+    }
+}
