@@ -12,13 +12,13 @@ use Rattle.std.proofs.shelf.Lists.{append-assoc, append-nil, take-all, length-t
 use Rattle.std.proofs.shelf.Tests.{cases-lt, cond-true, cond-false, eq-eqb, ne-eqb}
 
 -- the next pair is of machine j
-clock-named :
+pub clock-named :
     (size j c : ℕ) (ms cs : List ℕ)
     → clock-of (suc size) j (j ∷ ms) (c ∷ cs) ≡ c ∷ clock-of size (j + 1) ms cs
 clock-named size j c ms cs = cond-true (eqb j j) _ _ (eq-eqb j j refl)
 
 -- the next pair is of another machine
-clock-other :
+pub clock-other :
     (size j m c : ℕ) (ms cs : List ℕ)
     → (m ≡ j → ⊥)
     → clock-of (suc size) j (m ∷ ms) (c ∷ cs) ≡ 0 ∷ clock-of size (j + 1) (m ∷ ms) (c ∷ cs)

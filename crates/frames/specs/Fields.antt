@@ -2,8 +2,9 @@
 use Prim.Native.Nat.{ℕ, _+_, _*_, _/_, _%_}
 use lib.Dec.{leb}
 use lib.ListN.{getD}
-use mathlib.Core.Bool.{Bool, cond, _&&_}
-use mathlib.Core.List.{List, [], _∷_}
+use mathlib.Core.Bool.{Bool, true, false, cond, _&&_}
+use mathlib.Core.List.{List, [], _∷_, _++_}
+use mathlib.Core.Path.{_≡_}
 use Rattle.frames.specs.declared.fault.FrameFault.{FrameFault}
 use Rattle.frames.specs.declared.fault.FrameFault.the-variants.{Length, Field}
 use Rattle.std.specs.declared.option.Option.{Option}
@@ -41,6 +42,28 @@ row at width holds = record { at = at; width = width; holds = holds }
 abbrev pub first-bad : List Row → Option ℕ
 first-bad [] = None
 first-bad (r ∷ rs) = cond (r .holds) (first-bad rs) (Some (r .at))
+
+-- every field of a table keeps its range or rule
+abbrev pub All-hold : List Row → Type 0
+All-hold [] = Unit {0}
+All-hold (r ∷ rs) = (r .holds ≡ true) × All-hold rs
+
+-- some field of a table stands at this offset and breaks, and none in front of it does
+abbrev pub Breaks-first : List Row → ℕ → Type 0
+Breaks-first rows at =
+    (front : List Row)
+    × (r : Row)
+    × (back : List Row)
+    × (rows ≡ front ++ (r ∷ back))
+    × All-hold front
+    × (r .holds ≡ false)
+    × (r .at ≡ at)
+
+-- what `first-bad` tells: the offset of the field that breaks first, and nothing only where all hold
+abbrev pub First-bad-tells : Type 0
+First-bad-tells =
+    ((rows : List Row) (at : ℕ) → first-bad rows ≡ Some at → Breaks-first rows at)
+    × ((rows : List Row) → first-bad rows ≡ None → All-hold rows)
 
 -- bytes of a known kind: whether their length is that of the kind, the fields in rising order, and the record that the
 -- fields show if all hold

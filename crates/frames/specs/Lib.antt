@@ -6,3 +6,4 @@ pub mod Votes
 pub mod Frames
 pub mod Heads
 pub mod Writing
+pub mod Spelled
