@@ -9,7 +9,7 @@ use mathlib.Core.Path.{_≡_, refl, sym, ap, subst, _∙_}
 use native.Mathlib.Omega.{arith}
 use Rattle.frames.proofs.Paired.{same-count, counts-fewer, machines-hold, counts-hold, clock-back, length-clock, of-clock, pairs-back, rows-rise, May-have, may-have-none, rows-range}
 use Rattle.frames.proofs.Rows.{first-bad-behind}
-use Rattle.frames.proofs.Words.{word-back, high-word, low-word, signed-back, signed-fits, high-signed, low-signed, within-true, within-parts, all-hold, answered-ok, ok-answered, front-4, next-2}
+use Rattle.frames.proofs.Words.{word-back, high-word, low-word, signed-back, signed-fits, high-signed, low-signed, within-true, within-parts, all-hold, hold-parts, answered-ok, ok-answered, front-4, next-2}
 use Rattle.frames.specs.Changes.{pairs, machines-in, counts-in, fixed-rows, pair-rows, change-in, change-whole, change-layout, change-spelling, ValidChange}
 use Rattle.frames.specs.Clocks.{clock-of, machines-of, counts-of, machine-rows, count-rows}
 use Rattle.frames.specs.Fields.{Row, All-hold, byte, word, high, low, within, first-bad, answered}
@@ -92,3 +92,78 @@ module _ (n : ℕ) (one : 1 ≤ n) (nine : n ≤ 9) where
     change-back =
         ok-answered (change-layout n b) whole (first-bad-behind (fixed-rows n b) (pair-rows n b) fixed-hold ∙ pairs-hold)
         ∙ ap Ok shown
+
+  module _ (b : List ℕ) (bytes : Bytes b) (is : change-whole b ≡ true) where
+    abbrev there : List ℕ
+    there = clock-of 9 1 (machines-in b) (counts-in b)
+
+    m-few : pairs b ≤ 8
+    m-few = leb-true (pairs b) 8 (and-parts _ _ is .0)
+
+    long : length b ≡ 8 + 2 * pairs b
+    long = eqb-true (length b) (8 + 2 * pairs b) (and-parts _ _ is .1)
+
+    machines-long : length (machines-in b) ≡ pairs b
+    machines-long = length-take-le (pairs b) (drop 8 b) (omega (arith, length-drop 8 b, long))
+
+    counts-long : length (counts-in b) ≡ pairs b
+    counts-long = omega (arith, length-drop (pairs b) (drop 8 b), length-drop 8 b, long)
+
+    module _ (machine-rows-hold : All-hold (machine-rows n (byte b 2) 8 0 (machines-in b))) (count-rows-hold : All-hold (count-rows (8 + pairs b) (counts-in b))) where
+      pairs-there : (machines-of 1 there ≡ machines-in b) × (counts-of there ≡ counts-in b)
+      pairs-there =
+          pairs-back 9 1 10 (machines-in b) (counts-in b) refl
+          (rows-rise n (byte b 2) 8 (8 + pairs b) 0 (machines-in b) (counts-in b) nine (machines-long ∙ sym counts-long) machine-rows-hold count-rows-hold)
+
+      in-range : (i : ℕ) → May-have n (byte b 2) (1 + i) (getD there i 0)
+      in-range =
+          of-clock (May-have n (byte b 2)) (may-have-none n (byte b 2)) 9 1 (machines-in b) (counts-in b)
+          (rows-range n (byte b 2) 8 (8 + pairs b) 0 (machines-in b) (counts-in b) machine-rows-hold count-rows-hold)
+
+      spelled : byte b 0 ≡ 1 → b ≡ change-spelling (change-in b)
+      spelled kind =
+          let front = front-4 b (omega (arith, long)) in
+          let middle = next-2 b 4 (omega (arith, long)) in
+          let back = next-2 b 6 (omega (arith, long)) in
+          let rest : drop 8 b ≡ machines-in b ++ counts-in b = sym (take-append-drop (pairs b) (drop 8 b)) in
+          let h4 = high-word (byte b 4) (byte b 5) (bytes 4) (bytes 5) in
+          let l4 = low-word (byte b 4) (byte b 5) (bytes 5) in
+          let h6 = high-signed (byte b 6) (byte b 7) (bytes 6) (bytes 7) in
+          let l6 = low-signed (byte b 6) (byte b 7) (bytes 6) (bytes 7) in
+          let ms = pairs-there .0 in
+          let cs = pairs-there .1 in
+          let m : length (counts-of there) ≡ byte b 1 = ap length cs ∙ counts-long in
+          let together : machines-of 1 there ++ counts-of there ≡ machines-in b ++ counts-in b = cc in
+          cc
+
+      valid : All-hold (fixed-rows n b) → ValidChange n (change-in b)
+      valid fixed =
+          let author = within-parts 1 n (byte b 2) (fixed .0) in
+          let number = within-parts 1 40 (byte b 3) (fixed .1 .0) in
+          let setting = within-parts 0 999 (word b 4) (fixed .1 .1 .0) in
+          record
+          { author-least = author .0
+          ; author-most = author .1
+          ; number-least = number .0
+          ; number-most = number .1
+          ; setting-most = setting .1
+          ; level-fits = signed-fits (byte b 6) (byte b 7) (bytes 6) (bytes 7)
+          ; nine = length-clock 9 1 (machines-in b) (counts-in b)
+          ; counts-most = λ j. in-range j .0
+          ; no-own = in-range (byte b 2 - 1) .1 (omega (arith, author .0))
+          ; none-above = λ j l. in-range j .2 (omega arith)
+          }
+
+  pub change-only :
+      (b : List ℕ) → Bytes b
+      → (c : Change)
+      → byte b 0 ≡ 1
+      → answered (change-layout n b) ≡ Ok c
+      → ValidChange n c × (b ≡ change-spelling c)
+  change-only b bytes c kind ok =
+      let P : Change → Type 0 = λ x. ValidChange n x × (b ≡ change-spelling x) in
+      let a = answered-ok (change-layout n b) c ok in
+      let hold = hold-parts (fixed-rows n b) (pair-rows n b) (all-hold (change-layout n b .fields) (a .1)) in
+      let both = hold-parts (machine-rows n (byte b 2) 8 0 (machines-in b)) (count-rows (8 + pairs b) (counts-in b)) (hold .1) in
+      subst P (a .2)
+      (valid b bytes (a .0) (both .0) (both .1) (hold .0), spelled b bytes (a .0) (both .0) (both .1) kind)

@@ -5,3 +5,4 @@ pub mod Words
 pub mod Voted
 pub mod Paired
 pub mod Changed
+pub mod Framed

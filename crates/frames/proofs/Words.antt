@@ -67,6 +67,11 @@ all-hold (r ∷ rs) h = go (r .holds) (all-hold rs) h
   go true more e = (refl, more e)
   go false more e = absurd (let z : _≡_ {A = ℕ} 0 1 = cc in omega arith)
 
+-- a table behind another
+pub hold-parts : (front back : List Row) → All-hold (front ++ back) → All-hold front × All-hold back
+hold-parts [] back h = (tt, h)
+hold-parts (r ∷ rs) back h = let parts = hold-parts rs back (h .1) in ((h .0, parts .0), parts .1)
+
 -- the field that a table tells is one of its own, it breaks, and none before it does
 pub breaks-first : (rows : List Row) (at : ℕ) → first-bad rows ≡ Some at → Breaks-first rows at
 breaks-first [] at h = absurd (let z : _≡_ {A = ℕ} 0 1 = cc in omega arith)

@@ -1,9 +1,10 @@
 -- One frame, one spelling.
 use Prim.Native.Nat.{ℕ, _≤_, _<_}
-use lib.ListN.{getD}
+use lib.ListN.{getD, take}
 use mathlib.Core.List.{List}
 use mathlib.Core.Path.{_≡_}
 use Rattle.frames.specs.Frames.{reading, spelling, Valid}
+use Rattle.frames.specs.declared.fault.BufferTooShort.{BufferTooShort}
 use Rattle.frames.specs.declared.fault.FrameFault.{FrameFault}
 use Rattle.frames.specs.declared.frame.Frame.{Frame}
 use Rattle.std.specs.declared.result.Result.{Result}
@@ -23,6 +24,11 @@ Spelled {Q} K n bytes (Err fault) = (f : Frame Q) → Valid K n f → bytes ≡ 
 abbrev pub Reads-back : {Q : Type 0} → Kind Q → Type 0
 Reads-back {Q} K =
     (n : ℕ) (f : Frame Q) → 1 ≤ n → n ≤ 9 → Valid K n f → reading K n (spelling K f) ≡ Ok f
+
+-- the bytes that an accepted writing of a valid frame leaves in a buffer read as that frame, in every fleet that it is valid in
+abbrev pub Found-back : {Q : Type 0} → Kind Q → Frame Q → Result ℕ BufferTooShort → List ℕ → Type 0
+Found-back K f (Ok length) buffer = (n : ℕ) → 1 ≤ n → n ≤ 9 → Valid K n f → reading K n (take length buffer) ≡ Ok f
+Found-back K f (Err fault) buffer = Unit {0}
 
 -- two frames that are read from the same bytes are the same
 abbrev pub Same-from-same-bytes : {Q : Type 0} → Kind Q → Type 0

@@ -2,6 +2,7 @@
 pub mod change;
 pub mod fault;
 pub mod frame;
+pub mod laws;
 pub mod pairs;
 pub mod read;
 pub mod write;

@@ -6,6 +6,7 @@ ghost use Prim.Native.Nat.{_≤_};
 ghost use lib.ListN.{length};
 ghost use mathlib.Core.List.{[]};
 ghost use Rattle.frames.specs.Frames.{reading};
+ghost use Rattle.frames.specs.Spelled.{Spelled};
 ghost use mathlib.Core.Path.{_≡_};
 use crate::fault::FrameFault;
 use crate::change::read_change;
@@ -75,9 +76,9 @@ pub fn read_fill<V: ValueKind>(fleet: FleetSize, bytes: &[u8]) -> Result<Fill<V>
     }
 }
 
-// Any frame, with Q as the kind of a question's value.
-pub fn read<Q: QuestionKind>(fleet: FleetSize, bytes: &[u8]) -> Result<Frame<Q>, FrameFault>
-    ensures answer { λ r. ⌜ r ≡ reading (Q·ValueKind .kind) (fleet .machines) (now (bytes .entry)) ⌝ }
+// The first byte decides the kind.
+fn read_by_kind<Q: QuestionKind>(fleet: FleetSize, bytes: &[u8]) -> Result<Frame<Q>, FrameFault>
+    ensures { λ r. ⌜ r ≡ reading (Q·ValueKind .kind) (fleet .machines) (now (bytes .entry)) ⌝ }
 {
     if bytes.len() == 0 {
         return Err(FrameFault::Kind);
@@ -96,4 +97,13 @@ pub fn read<Q: QuestionKind>(fleet: FleetSize, bytes: &[u8]) -> Result<Frame<Q>,
     } else {
         Err(FrameFault::Kind)
     }
+}
+
+// Any frame, with Q as the kind of a question's value. It answers a frame exactly if the bytes are the spelling of one
+// that there can be in this fleet, and else the first refusal that fits.
+pub fn read<Q: QuestionKind>(fleet: FleetSize, bytes: &[u8]) -> Result<Frame<Q>, FrameFault>
+    ensures answer { λ r. ⌜ r ≡ reading (Q·ValueKind .kind) (fleet .machines) (now (bytes .entry)) ⌝ }
+    ensures spelled { λ r. ⌜ Spelled (Q·ValueKind .kind) (fleet .machines) (now (bytes .entry)) r ⌝ }
+{
+    read_by_kind(fleet, bytes)
 }

@@ -2,6 +2,7 @@
 ghost use Prim.Native.Nat.{_+_, _≤_};
 ghost use Rattle.frames.specs.Changes.{change-spelling, head-spelling};
 ghost use Rattle.frames.specs.Frames.{spelling};
+ghost use Rattle.frames.specs.Spelled.{Found-back};
 ghost use Rattle.frames.specs.Votes.{contribution-spelling, fill-spelling};
 ghost use Rattle.frames.specs.Writing.{write-answer, written};
 ghost use lib.ListN.{drop, length, take};
@@ -92,9 +93,7 @@ fn write_change(change: &Change, buffer: &mut [u8]) -> Result<usize, BufferTooSh
     put_parts(buffer, &head, &machines[0..len], &counts[0..len])
 }
 
-// Writes a frame at the front of the buffer and answers its length. The rest of the buffer stays as it was, and where
-// the buffer is too short all of it does.
-pub fn write<Q: QuestionKind>(frame: &Frame<Q>, buffer: &mut [u8]) -> Result<usize, BufferTooShort>
+fn write_by_kind<Q: QuestionKind>(frame: &Frame<Q>, buffer: &mut [u8]) -> Result<usize, BufferTooShort>
     ensures answer { λ r. ⌜ r ≡ write-answer (spelling (Q·ValueKind .kind) (now (frame .entry))) (now (buffer .entry)) ⌝ }
     ensures after { λ _. ⌜ now (buffer .exit) ≡ written (spelling (Q·ValueKind .kind) (now (frame .entry))) (now (buffer .entry)) ⌝ }
 {
@@ -105,4 +104,14 @@ pub fn write<Q: QuestionKind>(frame: &Frame<Q>, buffer: &mut [u8]) -> Result<usi
         Frame::QuestionContribution(c) => put(buffer, &contribution_bytes(*c)),
         Frame::QuestionFill(f) => put(buffer, &fill_bytes(*f)),
     }
+}
+
+// Writes a frame at the front of the buffer and answers its length. The rest of the buffer stays as it was, and where
+// the buffer is too short all of it does. What is written for a frame that there can be reads back as that frame.
+pub fn write<Q: QuestionKind>(frame: &Frame<Q>, buffer: &mut [u8]) -> Result<usize, BufferTooShort>
+    ensures answer { λ r. ⌜ r ≡ write-answer (spelling (Q·ValueKind .kind) (now (frame .entry))) (now (buffer .entry)) ⌝ }
+    ensures after { λ _. ⌜ now (buffer .exit) ≡ written (spelling (Q·ValueKind .kind) (now (frame .entry))) (now (buffer .entry)) ⌝ }
+    ensures back { λ r. ⌜ Found-back (Q·ValueKind .kind) (now (frame .entry)) r (now (buffer .exit)) ⌝ }
+{
+    write_by_kind(frame, buffer)
 }

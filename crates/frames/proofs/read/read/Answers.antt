@@ -1,19 +1,15 @@
--- The first byte is a question's frame kind, and no other's before it.
-use native.Mathlib.Omega.{arith}
+use Rattle.frames.proofs.Framed.{spelled}
 use Rattle.frames.proofs.read.read.Needs as need
-use Rattle.std.proofs.shelf.Ways.{tells}
 
-pub returns-in-Break-read-contribution-2 : need.returns-in-Break-read-contribution-2
-returns-in-Break-read-contribution-2 g c = grind (arith, tells)
-
-pub returns-in-Break-read-fill-2 : need.returns-in-Break-read-fill-2
-returns-in-Break-read-fill-2 g c = grind (arith, tells)
-
-pub returns-in-Continue-read-contribution-2 : need.returns-in-Continue-read-contribution-2
-returns-in-Continue-read-contribution-2 g c = grind (arith, tells)
-
-pub returns-in-Continue-read-fill-2 : need.returns-in-Continue-read-fill-2
-returns-in-Continue-read-fill-2 g c = grind (arith, tells)
-
-pub returns-else-kind-fill-kind : need.returns-else-kind-fill-kind
-returns-else-kind-fill-kind g c = grind (arith, tells)
+pub returns : need.returns
+returns g c =
+    let K = g .Q·ValueKind .kind in
+    let slot = g .Q·QuestionKind·met .slot in
+    let fleet = c .args .fleet in
+    let r = c .read-by-kind in
+    record
+    { answer = r .ensures
+    ; spelled =
+        spelled K (g .Q·ValueKind·met .lawful) (slot .1) (slot .2) (fleet .machines) (fleet .some) (fleet .few)
+            (c .args .bytes .now) (λ i. c .typed .bytes i .fits) (r .result) (r .ensures)
+    }

@@ -1,0 +1,20 @@
+// Facts about frames that are worth a name, each in the contract of a function, so that the check asks for its proof.
+ghost use Rattle.frames.specs.Fields.{First-bad-tells};
+ghost use Rattle.frames.specs.Spelled.{Reads-back, Same-from-same-bytes, Same-from-same-frame};
+use values::kind::QuestionKind;
+
+// One frame, one spelling, whatever kind questions have.
+pub fn one_spelling_stands<Q: QuestionKind>() -> u8
+    ensures back { λ _. ⌜ Reads-back (Q·ValueKind .kind) ⌝ }
+    ensures frames { λ _. ⌜ Same-from-same-bytes (Q·ValueKind .kind) ⌝ }
+    ensures bytes { λ _. ⌜ Same-from-same-frame (Q·ValueKind .kind) ⌝ }
+{
+    0
+}
+
+// The offset of a refusal is that of the field that breaks first.
+pub fn first_field_stands() -> u8
+    ensures { λ _. ⌜ First-bad-tells ⌝ }
+{
+    0
+}
