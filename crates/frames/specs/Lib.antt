@@ -7,3 +7,4 @@ pub mod Frames
 pub mod Heads
 pub mod Writing
 pub mod Spelled
+pub mod Worked

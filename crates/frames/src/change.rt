@@ -123,7 +123,7 @@ fn shown(bytes: &[u8]) -> Change
 }
 
 // A change, whatever the first byte is.
-pub fn read_change(fleet: FleetSize, bytes: &[u8]) -> Result<Change, FrameFault>
+pub(crate) fn read_change(fleet: FleetSize, bytes: &[u8]) -> Result<Change, FrameFault>
     ensures { λ r. ⌜ r ≡ answered (change-layout (fleet .machines) (now (bytes .entry))) ⌝ }
 {
     if !is_whole(bytes) {

@@ -1,6 +1,7 @@
 // Facts about frames that are worth a name, each in the contract of a function, so that the check asks for its proof.
 ghost use Rattle.frames.specs.Fields.{First-bad-tells};
 ghost use Rattle.frames.specs.Spelled.{Reads-back, Same-from-same-bytes, Same-from-same-frame};
+ghost use Rattle.frames.specs.Worked.{Fills-with-coldest, Reads-first-change, Refuses-colder};
 use values::kind::QuestionKind;
 
 // One frame, one spelling, whatever kind questions have.
@@ -15,6 +16,15 @@ pub fn one_spelling_stands<Q: QuestionKind>() -> u8
 // The offset of a refusal is that of the field that breaks first.
 pub fn first_field_stands() -> u8
     ensures { λ _. ⌜ First-bad-tells ⌝ }
+{
+    0
+}
+
+// Worked examples of reading.
+pub fn worked_frames_stand() -> u8
+    ensures fills { λ _. ⌜ Fills-with-coldest ⌝ }
+    ensures refuses { λ _. ⌜ Refuses-colder ⌝ }
+    ensures change { λ _. ⌜ Reads-first-change ⌝ }
 {
     0
 }

@@ -1,5 +1,5 @@
 // The radio frames: what machines say to each other. A frame is read from bytes and written into bytes, and has one spelling.
-pub mod change;
+mod change;
 pub mod fault;
 pub mod frame;
 pub mod laws;

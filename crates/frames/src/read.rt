@@ -45,7 +45,7 @@ fn read_head<V: ValueKind>(fleet: FleetSize, bytes: &[u8]) -> Result<Head, Frame
 }
 
 // A contribution to a ballot of the kind V, whatever the first byte is.
-pub fn read_contribution<V: ValueKind>(fleet: FleetSize, bytes: &[u8]) -> Result<Contribution<V>, FrameFault>
+fn read_contribution<V: ValueKind>(fleet: FleetSize, bytes: &[u8]) -> Result<Contribution<V>, FrameFault>
     ensures { λ r. ⌜ r ≡ answered (contribution-layout (V·ValueKind .kind) (fleet .machines) (now (bytes .entry))) ⌝ }
 {
     if bytes.len() != 8 {
@@ -63,7 +63,7 @@ pub fn read_contribution<V: ValueKind>(fleet: FleetSize, bytes: &[u8]) -> Result
 }
 
 // A fill of a ballot of the kind V, whatever the first byte is.
-pub fn read_fill<V: ValueKind>(fleet: FleetSize, bytes: &[u8]) -> Result<Fill<V>, FrameFault>
+fn read_fill<V: ValueKind>(fleet: FleetSize, bytes: &[u8]) -> Result<Fill<V>, FrameFault>
     ensures { λ r. ⌜ r ≡ answered (fill-layout (V·ValueKind .kind) (fleet .machines) (now (bytes .entry))) ⌝ }
 {
     if bytes.len() != 6 {
