@@ -21,7 +21,7 @@ pub impl<T: Drop> From<Refused<T>> for HexFault as HexFromRefused {
     }
 }
 
-fn is_blank(c: u8) -> bool
+pub(crate) fn is_blank(c: u8) -> bool
     ensures { λ r. ⌜ r ≡ blank c ⌝ }
 {
     c == b' ' || c == b'\t' || c == b'\r'

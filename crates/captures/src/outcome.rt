@@ -16,3 +16,11 @@ pub struct Explained {
     pub outcome: Outcome,
     pub text: String,
 }
+
+// How many lines of each sort there were.
+#[derive(Clone, Copy)]
+pub struct Tally {
+    pub good: u64,
+    pub refused: u64,
+    pub unreadable: u64,
+}
