@@ -11,7 +11,7 @@ use Rattle.frames.proofs.Changed.{change-back, change-only}
 use Rattle.frames.proofs.Voted.{contribution-back, contribution-only, fill-back, fill-only}
 use Rattle.frames.specs.Changes.{change-layout}
 use Rattle.frames.specs.Fields.{byte, answered}
-use Rattle.frames.specs.Frames.{framed, reading, spelling, Valid}
+use Rattle.frames.specs.Frames.{framed, question-reading, reading, spelling, Valid}
 use Rattle.frames.specs.Spelled.{Bytes, Spelled, Found-back, Reads-back, Same-from-same-bytes, Same-from-same-frame}
 use Rattle.frames.specs.Writing.{write-answer, written}
 use Rattle.frames.specs.Votes.{contribution-layout, contribution-spelling, fill-layout, fill-spelling}
@@ -35,25 +35,24 @@ framed-ok :
 framed-ok make (Ok f) g e = (f, refl, cc)
 framed-ok make (Err fault) g e = absurd (let z : _≡_ {A = ℕ} 0 1 = cc in omega arith)
 
+-- the layout that a first byte of 4 or 5 decides
 module _ {Q : Type 0} (K : Kind Q) (four : K .contribution ≡ 4) (five : K .fill ≡ 5) (n : ℕ) (b : List ℕ) where
-  -- the layout that a first byte of 4 or 5 decides
-  as-contribution :
-      byte b 0 ≡ 4 → reading K n b ≡ framed QuestionContribution (answered (contribution-layout K n b))
-  as-contribution is =
+  as-question : 4 ≤ byte b 0 → reading K n b ≡ question-reading K n b
+  as-question above =
       let not1 : eqb (byte b 0) 1 ≡ false = ne-eqb (byte b 0) 1 (λ e. omega arith) in
       let not2 : eqb (byte b 0) 2 ≡ false = ne-eqb (byte b 0) 2 (λ e. omega arith) in
       let not3 : eqb (byte b 0) 3 ≡ false = ne-eqb (byte b 0) 3 (λ e. omega arith) in
-      let it : eqb (byte b 0) (K .contribution) ≡ true = eq-eqb (byte b 0) (K .contribution) (omega arith) in
-      rw (not1, not2, not3, it)
+      rw (not1, not2, not3)
+
+  as-contribution :
+      byte b 0 ≡ 4 → reading K n b ≡ framed QuestionContribution (answered (contribution-layout K n b))
+  as-contribution is = as-question (omega arith) ∙ cond-true _ _ _ (eq-eqb (byte b 0) (K .contribution) (omega arith))
 
   as-fill : byte b 0 ≡ 5 → reading K n b ≡ framed QuestionFill (answered (fill-layout K n b))
   as-fill is =
-      let not1 : eqb (byte b 0) 1 ≡ false = ne-eqb (byte b 0) 1 (λ e. omega arith) in
-      let not2 : eqb (byte b 0) 2 ≡ false = ne-eqb (byte b 0) 2 (λ e. omega arith) in
-      let not3 : eqb (byte b 0) 3 ≡ false = ne-eqb (byte b 0) 3 (λ e. omega arith) in
-      let not4 : eqb (byte b 0) (K .contribution) ≡ false = ne-eqb (byte b 0) (K .contribution) (λ e. omega arith) in
-      let it : eqb (byte b 0) (K .fill) ≡ true = eq-eqb (byte b 0) (K .fill) (omega arith) in
-      rw (not1, not2, not3, not4, it)
+      as-question (omega arith)
+      ∙ (cond-false _ _ _ (ne-eqb (byte b 0) (K .contribution) (λ e. omega arith))
+        ∙ cond-true _ _ _ (eq-eqb (byte b 0) (K .fill) (omega arith)))
 
 module _ {Q : Type 0} (K : Kind Q) (L : Lawful K) (four : K .contribution ≡ 4) (five : K .fill ≡ 5) where
   pub reads-back : Reads-back K
@@ -64,7 +63,8 @@ module _ {Q : Type 0} (K : Kind Q) (L : Lawful K) (four : K .contribution ≡ 4)
       as-contribution K four five n (contribution-spelling K c) four
       ∙ ap (framed QuestionContribution) (contribution-back K L n one nine c v)
   reads-back n (QuestionFill f) one nine v =
-      as-fill K four five n (fill-spelling K f) five ∙ ap (framed QuestionFill) (fill-back K L n one nine f v)
+      as-fill K four five n (fill-spelling K f) five
+      ∙ ap (framed QuestionFill) (fill-back K L n one nine f v)
 
   module _ (n : ℕ) (one : 1 ≤ n) (nine : n ≤ 9) (b : List ℕ) (bytes : Bytes b) (f : Frame Q) where
     abbrev Good : Frame Q → Type 0

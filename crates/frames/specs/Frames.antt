@@ -20,15 +20,19 @@ abbrev pub framed : {F G : Type 0} → (F → G) → Result F FrameFault → Res
 framed make (Ok f) = Ok (make f)
 framed make (Err fault) = Err fault
 
--- what bytes read as: the kind is the first byte (0, which is no kind, where there is none), and decides the layout
+-- what bytes read as: the first byte (0, which is no kind, where there is none) is the kind, and decides the layout
+abbrev pub question-reading : {Q : Type 0} → Kind Q → ℕ → List ℕ → Result (Frame Q) FrameFault
+question-reading K n bytes =
+    cond (eqb (byte bytes 0) (K .contribution)) (framed QuestionContribution (answered (contribution-layout K n bytes)))
+    (cond (eqb (byte bytes 0) (K .fill)) (framed QuestionFill (answered (fill-layout K n bytes)))
+    (Err UnknownKind))
+
 abbrev pub reading : {Q : Type 0} → Kind Q → ℕ → List ℕ → Result (Frame Q) FrameFault
 reading K n bytes =
     cond (eqb (byte bytes 0) 1) (framed Change (answered (change-layout n bytes)))
     (cond (eqb (byte bytes 0) (mark-kind .contribution)) (framed PlaceContribution (answered (contribution-layout mark-kind n bytes)))
     (cond (eqb (byte bytes 0) (mark-kind .fill)) (framed PlaceFill (answered (fill-layout mark-kind n bytes)))
-    (cond (eqb (byte bytes 0) (K .contribution)) (framed QuestionContribution (answered (contribution-layout K n bytes)))
-    (cond (eqb (byte bytes 0) (K .fill)) (framed QuestionFill (answered (fill-layout K n bytes)))
-    (Err UnknownKind)))))
+    (question-reading K n bytes)))
 
 -- the bytes that a frame is written in
 abbrev pub spelling : {Q : Type 0} → Kind Q → Frame Q → List ℕ

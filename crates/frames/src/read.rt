@@ -5,7 +5,7 @@ ghost use Rattle.frames.specs.Heads.{head-in};
 ghost use Prim.Native.Nat.{_≤_};
 ghost use lib.ListN.{length};
 ghost use mathlib.Core.List.{[]};
-ghost use Rattle.frames.specs.Frames.{reading};
+ghost use Rattle.frames.specs.Frames.{question-reading, reading};
 ghost use Rattle.frames.specs.Spelled.{Spelled};
 ghost use mathlib.Core.Path.{_≡_};
 use crate::fault::FrameFault;
@@ -76,7 +76,22 @@ fn read_fill<V: ValueKind>(fleet: FleetSize, bytes: &[u8]) -> Result<Fill<V>, Fr
     }
 }
 
-// The first byte decides the kind.
+// The first byte decides the kind: one of a question's two.
+fn read_question<Q: QuestionKind>(fleet: FleetSize, bytes: &[u8]) -> Result<Frame<Q>, FrameFault>
+    requires { ⌜ 1 ≤ length (now bytes) ⌝ }
+    ensures { λ r. ⌜ r ≡ question-reading (Q·ValueKind .kind) (fleet .machines) (now (bytes .entry)) ⌝ }
+{
+    let kind = bytes[0];
+    if kind == Q::contribution_kind() {
+        Ok(Frame::QuestionContribution(read_contribution(fleet, bytes)?))
+    } else if kind == Q::fill_kind() {
+        Ok(Frame::QuestionFill(read_fill(fleet, bytes)?))
+    } else {
+        Err(FrameFault::Kind)
+    }
+}
+
+// The first byte decides the kind: any of them.
 fn read_by_kind<Q: QuestionKind>(fleet: FleetSize, bytes: &[u8]) -> Result<Frame<Q>, FrameFault>
     ensures { λ r. ⌜ r ≡ reading (Q·ValueKind .kind) (fleet .machines) (now (bytes .entry)) ⌝ }
 {
@@ -90,12 +105,8 @@ fn read_by_kind<Q: QuestionKind>(fleet: FleetSize, bytes: &[u8]) -> Result<Frame
         Ok(Frame::PlaceContribution(read_contribution(fleet, bytes)?))
     } else if kind == Mark::FILL {
         Ok(Frame::PlaceFill(read_fill(fleet, bytes)?))
-    } else if kind == Q::contribution_kind() {
-        Ok(Frame::QuestionContribution(read_contribution(fleet, bytes)?))
-    } else if kind == Q::fill_kind() {
-        Ok(Frame::QuestionFill(read_fill(fleet, bytes)?))
     } else {
-        Err(FrameFault::Kind)
+        read_question(fleet, bytes)
     }
 }
 
