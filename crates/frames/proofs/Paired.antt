@@ -9,7 +9,7 @@ use mathlib.Core.Path.{_≡_, refl, sym, ap, subst, _∙_}
 use native.Mathlib.Omega.{arith}
 use Rattle.frames.proofs.Clocked.{clock-named, clock-other}
 use Rattle.frames.proofs.Words.{within-true}
-use Rattle.frames.specs.Clocks.{clock-of, machines-of, counts-of, machine-rows, count-rows}
+use Rattle.frames.specs.Clocks.{clock-of, machines-of, counts-of, machine-fits, machine-rows, count-rows}
 use Rattle.frames.specs.Fields.{Row, All-hold, first-bad, within}
 use Rattle.std.proofs.shelf.Tests.{cases-bool, cases-eq, cond-true, cond-false, eqb-true, eqb-false, eq-eqb, ne-eqb, lt-ltb, le-leb, ltb-true, leb-true, and-from, and-parts, not-from-false, not-true}
 use Rattle.std.specs.declared.option.Option.the-variants.{Some, None}
@@ -72,7 +72,7 @@ machines-hold n author at previous j (c ∷ clock) l may =
   go (inr e) skip take =
       let m = may 0 (eqb-false c 0 e) in
       let other : j ≡ author → ⊥ = λ is. m .1 (omega arith) in
-      let holds : (ltb previous j && (leb j n && not (eqb j author))) ≡ true =
+      let holds : machine-fits n author previous j ≡ true =
               and-from _ _ (lt-ltb previous j l) (and-from _ _ (le-leb j n (omega (arith, m .0))) (not-from-false _ (ne-eqb j author other)))
       in
       rw (e, holds) take
@@ -251,9 +251,9 @@ rows-rise n author at first previous [] [] nine same h k = tt
 rows-rise n author at first previous [] (c ∷ cs) nine same h k = absurd (omega arith)
 rows-rise n author at first previous (m ∷ ms) [] nine same h k = absurd (omega arith)
 rows-rise n author at first previous (m ∷ ms) (c ∷ cs) nine same h k =
-    let parts = and-parts _ _ (h .0) in
-    let most = and-parts _ _ (parts .1) in
-    let count = and-parts _ _ (k .0) in
+    let parts = and-parts (ltb previous m) (leb m n && not (eqb m author)) (h .0) in
+    let most = and-parts (leb m n) (not (eqb m author)) (parts .1) in
+    let count = and-parts (leb 1 c) (leb c 40) (k .0) in
     ( omega (arith, ltb-true previous m (parts .0))
     , omega (arith, leb-true m n (most .0))
     , leb-true 1 c (count .0)
@@ -274,9 +274,9 @@ pub rows-range :
 rows-range n author at first previous [] cs h k = tt
 rows-range n author at first previous (m ∷ ms) [] h k = tt
 rows-range n author at first previous (m ∷ ms) (c ∷ cs) h k =
-    let parts = and-parts _ _ (h .0) in
-    let most = and-parts _ _ (parts .1) in
-    let count = and-parts _ _ (k .0) in
+    let parts = and-parts (ltb previous m) (leb m n && not (eqb m author)) (h .0) in
+    let most = and-parts (leb m n) (not (eqb m author)) (parts .1) in
+    let count = and-parts (leb 1 c) (leb c 40) (k .0) in
     ( ( leb-true c 40 (count .1)
       , λ e. absurd (eqb-false m author (not-true _ (most .1)) e)
       , λ e. absurd (omega (arith, leb-true m n (most .0))) )

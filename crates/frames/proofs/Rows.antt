@@ -1,12 +1,11 @@
 -- How the tables of machine numbers and of counts go on, one number at a time.
 use Prim.Native.Nat.{ℕ, _+_, _<_, _≤_}
-use lib.Dec.{leb, ltb, eqb}
 use lib.ListN.{length, getD, drop}
-use mathlib.Core.Bool.{Bool, true, false, cond, not, _&&_}
+use mathlib.Core.Bool.{Bool, true, false, cond}
 use mathlib.Core.List.{List, [], _∷_, _++_}
 use mathlib.Core.Path.{_≡_, refl}
 use native.Mathlib.Omega.{arith}
-use Rattle.frames.specs.Clocks.{machine-rows, count-rows}
+use Rattle.frames.specs.Clocks.{machine-fits, machine-rows, count-rows}
 use Rattle.frames.specs.Fields.{Row, first-bad, within}
 use Rattle.std.proofs.shelf.Lists.{at-drop-more, at-drop-all}
 use Rattle.std.specs.declared.option.Option.the-variants.{Some, None}
@@ -15,7 +14,7 @@ pub machine-next :
     (n author at previous i : ℕ) (xs : List ℕ)
     → i < length xs
     → first-bad (machine-rows n author at previous (drop i xs))
-    ≡ cond (ltb previous (getD xs i 0) && (leb (getD xs i 0) n && not (eqb (getD xs i 0) author)))
+    ≡ cond (machine-fits n author previous (getD xs i 0))
         (first-bad (machine-rows n author (at + 1) (getD xs i 0) (drop (i + 1) xs)))
         (Some at)
 machine-next n author at previous i xs h = at-drop-more (λ ys. first-bad (machine-rows n author at previous ys)) xs i 0 h

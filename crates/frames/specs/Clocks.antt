@@ -23,11 +23,15 @@ clock-of (suc size) j (m ∷ machines) [] = 0 ∷ clock-of size (j + 1) (m ∷ m
 clock-of (suc size) j (m ∷ machines) (c ∷ counts) =
     cond (eqb m j) (c ∷ clock-of size (j + 1) machines counts) (0 ∷ clock-of size (j + 1) (m ∷ machines) (c ∷ counts))
 
--- machine numbers from an offset on: each is above the one before it (the first above 0), at most n, and not the author
+-- a machine number is above the one before it (the first is above 0), at most n, and not the author
+abbrev pub machine-fits : ℕ → ℕ → ℕ → ℕ → Bool
+machine-fits n author previous m = ltb previous m && (leb m n && not (eqb m author))
+
+-- machine numbers from an offset on
 abbrev pub machine-rows : ℕ → ℕ → ℕ → ℕ → List ℕ → List Row
 machine-rows n author at previous [] = []
 machine-rows n author at previous (m ∷ machines) =
-    row at 1 (ltb previous m && (leb m n && not (eqb m author))) ∷ machine-rows n author (at + 1) m machines
+    row at 1 (machine-fits n author previous m) ∷ machine-rows n author (at + 1) m machines
 
 -- counts from an offset on: each is 1 to 40
 abbrev pub count-rows : ℕ → List ℕ → List Row

@@ -1,8 +1,8 @@
 // Reading a change.
 ghost use Prim.Native.Nat.{_+_, _≤_};
 ghost use Rattle.frames.specs.Changes.{change-in, change-layout, change-whole, counts-in, fixed-rows, machines-in, pair-rows, pairs};
-ghost use Rattle.frames.specs.Clocks.{clock-of, count-rows, machine-rows};
-ghost use Rattle.frames.specs.Fields.{answered, first-bad};
+ghost use Rattle.frames.specs.Clocks.{clock-of, count-rows, machine-fits, machine-rows};
+ghost use Rattle.frames.specs.Fields.{answered, first-bad, within};
 ghost use lib.ListN.{length};
 ghost use mathlib.Core.Bool.{true};
 ghost use mathlib.Core.Path.{_≡_};
@@ -12,6 +12,19 @@ use crate::frame::Forerunners;
 use values::fleet_size::FleetSize;
 use values::mark::Mark;
 
+// Whether a machine number keeps its rule behind the one before it, which is 0 for the first.
+fn machine_holds(fleet: FleetSize, author: u8, previous: u8, machine: u8) -> bool
+    ensures { λ r. ⌜ r ≡ machine-fits (fleet .machines) author previous machine ⌝ }
+{
+    previous < machine && machine <= fleet.machines && machine != author
+}
+
+fn count_holds(count: u8) -> bool
+    ensures { λ r. ⌜ r ≡ within 1 40 count ⌝ }
+{
+    1 <= count && count <= Mark::MOST_CHANGES
+}
+
 // The offset of the first machine number that breaks its rule; the first of them stands at offset 8.
 fn bad_machine(fleet: FleetSize, author: u8, machines: &[u8]) -> Option<u8>
     requires { ⌜ length (now machines) ≤ 8 ⌝ }
@@ -20,7 +33,7 @@ fn bad_machine(fleet: FleetSize, author: u8, machines: &[u8]) -> Option<u8>
     let mut at: u8 = 8;
     let mut previous: u8 = 0;
     for machine in machines {
-        if *machine <= previous || fleet.machines < *machine || *machine == author {
+        if !machine_holds(fleet, author, previous, *machine) {
             return Some(at);
         }
         previous = *machine;
@@ -36,7 +49,7 @@ fn bad_count(first: u8, counts: &[u8]) -> Option<u8>
 {
     let mut at = first;
     for count in counts {
-        if *count < 1 || Mark::MOST_CHANGES < *count {
+        if !count_holds(*count) {
             return Some(at);
         }
         at += 1;

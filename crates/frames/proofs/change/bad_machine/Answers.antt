@@ -2,21 +2,22 @@ use native.Mathlib.Omega.{arith}
 use mathlib.Core.Path.{sym, _∙_}
 use Rattle.frames.proofs.Rows.{machine-next, machine-end}
 use Rattle.frames.proofs.change.bad_machine.Needs as need
-use Rattle.std.proofs.shelf.Ways.{tells}
+use Rattle.std.proofs.shelf.Tests.{cond-true, cond-false}
 
-pub returns-then-machine-previous : need.returns-then-machine-previous
-returns-then-machine-previous c =
-    let e = machine-next (c .args .fleet .machines) (c .args .author) (c .loop-machine .at) (c .loop-machine .previous) (c .loop-machine .machine-index) (c .args .machines .now) (omega arith) in
-    let i = c .loop-machine .inv .1 in
-    grind (arith, tells)
+pub returns-then-not-machine-holds : need.returns-then-not-machine-holds
+returns-then-not-machine-holds c =
+    let l = c .loop-machine in
+    let next = machine-next (c .args .fleet .machines) (c .args .author) (l .at) (l .previous) (l .machine-index) (c .args .machines .now) (c .loop-machine-test .taken) in
+    sym (cond-false _ _ _ (sym (c .if-not-machine-holds .ensures tt))) ∙ (sym next ∙ l .inv .1)
 
 pub loop-machine-again : need.loop-machine-again
 loop-machine-again c =
-    let e = machine-next (c .args .fleet .machines) (c .args .author) (c .loop-machine .at) (c .loop-machine .previous) (c .loop-machine .machine-index) (c .args .machines .now) (omega arith) in
-    let i = c .loop-machine .inv .1 in
-    grind (arith, tells)
+    let l = c .loop-machine in
+    let next = machine-next (c .args .fleet .machines) (c .args .author) (l .at) (l .previous) (l .machine-index) (c .args .machines .now) (c .loop-machine-test .taken) in
+    (omega (arith, l .inv .0), sym (cond-true _ _ _ (sym (c .if-not-machine-holds .ensures tt))) ∙ (sym next ∙ l .inv .1))
 
 pub returns : need.returns
 returns c =
-    sym (machine-end (c .args .fleet .machines) (c .args .author) (c .loop-machine .at) (c .loop-machine .previous) (c .loop-machine .machine-index) (c .args .machines .now) (omega arith))
-    ∙ c .loop-machine .inv .1
+    let l = c .loop-machine in
+    sym (machine-end (c .args .fleet .machines) (c .args .author) (l .at) (l .previous) (l .machine-index) (c .args .machines .now) (c .loop-machine-test .left))
+    ∙ l .inv .1
