@@ -47,12 +47,12 @@ hex-byte column byte [] b f = absurd (let z : _≡_ {A = ℕ} 0 1 = cc in omega 
 hex-byte column byte (x ∷ []) b f = absurd (let z : _≡_ {A = ℕ} 0 1 = cc in omega arith)
 hex-byte column byte (x ∷ y ∷ rest) b f = rw b (go (digit x && digit y) f)
   where
-  go :
-      (t : Bool)
-      → Some byte ≡ cond t (Some (nibble x * 16 + nibble y)) None
-      → cond t (with-byte (nibble x * 16 + nibble y) (hex-from (column + 2) rest)) (Err column) ≡ with-byte byte (hex-from (column + 2) rest)
-  go true e = let same : nibble x * 16 + nibble y ≡ byte = cc in rw same
-  go false e = absurd (let z : _≡_ {A = ℕ} 0 1 = cc in omega arith)
+    go :
+        (t : Bool)
+        → Some byte ≡ cond t (Some (nibble x * 16 + nibble y)) None
+        → cond t (with-byte (nibble x * 16 + nibble y) (hex-from (column + 2) rest)) (Err column) ≡ with-byte byte (hex-from (column + 2) rest)
+    go true e = let same : nibble x * 16 + nibble y ≡ byte = cc in rw same
+    go false e = absurd (let z : _≡_ {A = ℕ} 0 1 = cc in omega arith)
 
 -- neither a blank nor two digits in front
 hex-else :
@@ -65,12 +65,12 @@ hex-else column [] l b f = absurd (omega arith)
 hex-else column (x ∷ []) l b f = rw b
 hex-else column (x ∷ y ∷ rest) l b f = rw b (go (digit x && digit y) f)
   where
-  go :
-      (t : Bool)
-      → None ≡ cond t (Some (nibble x * 16 + nibble y)) None
-      → cond t (with-byte (nibble x * 16 + nibble y) (hex-from (column + 2) rest)) (Err column) ≡ Err column
-  go true e = absurd (let z : _≡_ {A = ℕ} 0 1 = cc in omega arith)
-  go false e = refl
+    go :
+        (t : Bool)
+        → None ≡ cond t (Some (nibble x * 16 + nibble y)) None
+        → cond t (with-byte (nibble x * 16 + nibble y) (hex-from (column + 2) rest)) (Err column) ≡ Err column
+    go true e = absurd (let z : _≡_ {A = ℕ} 0 1 = cc in omega arith)
+    go false e = refl
 
 module _ (line done : List ℕ) (i : ℕ) (more : i < length line) (kept : Read-up-to done i line) where
   first-left : getD (drop i line) 0 0 ≡ getD line i 0
@@ -92,7 +92,7 @@ module _ (line done : List ℕ) (i : ℕ) (more : i < length line) (kept : Read-
       let column : i + 1 + 2 ≡ i + 2 + 1 = omega arith in
       let step = hex-byte (i + 1) byte (drop i line) (ap blank first-left ∙ b) f in
       let next : hex-from (i + 1) (drop i line) ≡ with-byte byte (hex-from (i + 2 + 1) (drop (i + 2) line)) =
-              step ∙ rw (rest, column)
+      step ∙ rw (rest, column)
       in
       rw e (sym (behind-byte done byte _) ∙ (ap (behind done) (sym next) ∙ kept))
 

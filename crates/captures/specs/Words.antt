@@ -46,9 +46,9 @@ abbrev pub contribution-words : List ℕ → ℕ → ℕ → List ℕ → ℕ �
 contribution-words subject ballot round value sender =
     codes "contribution "
     ++ (subject
-        ++ (codes " "
-            ++ (decimal ballot
-                ++ (codes " round " ++ (decimal round ++ (codes " value " ++ (value ++ (codes " from " ++ decimal sender))))))))
+    ++ (codes " "
+    ++ (decimal ballot
+    ++ (codes " round " ++ (decimal round ++ (codes " value " ++ (value ++ (codes " from " ++ decimal sender))))))))
 
 abbrev pub fill-words : List ℕ → ℕ → List ℕ → ℕ → List ℕ
 fill-words subject ballot value sender =

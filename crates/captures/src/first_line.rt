@@ -26,7 +26,11 @@ pub fn fleet_size(line: &[u8]) -> Option<FleetSize>
     ensures { λ r. ⌜ Says-size (unblanked (now (line .entry))) r ⌝ }
 {
     match only_character(line) {
-        Some(c) => if b'1' <= c && c <= b'9' { FleetSize::new(c - b'0') } else { None },
+        Some(c) => if b'1' <= c && c <= b'9' {
+            FleetSize::new(c - b'0')
+        } else {
+            None
+        },
         None => None,
     }
 }

@@ -29,20 +29,34 @@ fn explain_bytes(heap: Global, fleet: FleetSize, bytes: &[u8]) -> Result<Explain
     ensures text { λ r. ⌜ made r (λ e. string-bytes (e .text) ≡ bytes-words (fleet .machines) (now (bytes .entry))) ⌝ }
 {
     match read::<Level>(fleet, bytes) {
-        Ok(frame) => Ok(Explained { outcome: Outcome::Good, text: frame_text(heap, &frame)? }),
-        Err(fault) => Ok(Explained { outcome: Outcome::Refused, text: refusal_text(heap, fault)? }),
+        Ok(frame) => Ok(Explained {
+            outcome: Outcome::Good,
+            text: frame_text(heap, &frame)?,
+        }),
+        Err(fault) => Ok(Explained {
+            outcome: Outcome::Refused,
+            text: refusal_text(heap, fault)?,
+        }),
     }
 }
 
 // What one line of a capture says; `number` is the number of the line.
-pub fn explain(heap: Global, fleet: FleetSize, number: u64, line: &[u8]) -> Result<Explained, AllocError>
+pub fn explain(
+    heap: Global,
+    fleet: FleetSize,
+    number: u64,
+    line: &[u8],
+) -> Result<Explained, AllocError>
     ensures outcome { λ r. ⌜ made r (λ e. e .outcome ≡ line-outcome (fleet .machines) (now (line .entry))) ⌝ }
     ensures text { λ r. ⌜ made r (λ e. string-bytes (e .text) ≡ line-words (fleet .machines) number (now (line .entry))) ⌝ }
 {
     match read_hex(heap, line) {
         Ok(bytes) => explain_bytes(heap, fleet, bytes.as_slice()),
         Err(HexFault::Column(column)) => {
-            Ok(Explained { outcome: Outcome::Unreadable, text: unreadable_text(heap, number, column)? })
+            Ok(Explained {
+                outcome: Outcome::Unreadable,
+                text: unreadable_text(heap, number, column)?,
+            })
         }
         Err(HexFault::Memory) => Err(AllocError),
     }

@@ -12,7 +12,11 @@ impl Tally {
     pub fn new() -> Tally
         ensures { λ r. ⌜ r ≡ none-yet ⌝ }
     {
-        Tally { good: 0, refused: 0, unreadable: 0 }
+        Tally {
+            good: 0,
+            refused: 0,
+            unreadable: 0,
+        }
     }
 
     // One line more of a sort. A count that has no room for it stays as it is.
@@ -33,6 +37,9 @@ impl Tally {
         let good = self.good;
         let refused = self.refused;
         let unreadable = self.unreadable;
-        format!(heap, "good {good} refused {refused} unreadable {unreadable}")
+        format!(
+            heap,
+            "good {good} refused {refused} unreadable {unreadable}"
+        )
     }
 }

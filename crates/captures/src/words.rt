@@ -22,13 +22,29 @@ fn dotted_text(heap: Global, a: u8, b: u8) -> Result<String, AllocError>
     format!(heap, "{a}.{b}")
 }
 
-fn contribution_text(heap: Global, subject: &str, ballot: u16, round: u16, value: &str, sender: u8) -> Result<String, AllocError>
+fn contribution_text(
+    heap: Global,
+    subject: &str,
+    ballot: u16,
+    round: u16,
+    value: &str,
+    sender: u8,
+) -> Result<String, AllocError>
     ensures { λ r. ⌜ made r (λ t. string-bytes t ≡ contribution-words (now (subject .entry)) ballot round (now (value .entry)) sender) ⌝ }
 {
-    format!(heap, "contribution {subject} {ballot} round {round} value {value} from {sender}")
+    format!(
+        heap,
+        "contribution {subject} {ballot} round {round} value {value} from {sender}"
+    )
 }
 
-fn fill_text(heap: Global, subject: &str, ballot: u16, value: &str, sender: u8) -> Result<String, AllocError>
+fn fill_text(
+    heap: Global,
+    subject: &str,
+    ballot: u16,
+    value: &str,
+    sender: u8,
+) -> Result<String, AllocError>
     ensures { λ r. ⌜ made r (λ t. string-bytes t ≡ fill-words (now (subject .entry)) ballot (now (value .entry)) sender) ⌝ }
 {
     format!(heap, "fill {subject} {ballot} value {value} from {sender}")
@@ -79,7 +95,11 @@ fn change_head_text(heap: Global, change: &Change) -> Result<String, AllocError>
 fn change_text(heap: Global, change: &Change) -> Result<String, AllocError>
     ensures { λ r. ⌜ made r (λ t. string-bytes t ≡ change-words (now (change .entry))) ⌝ }
 {
-    let Pairs { len, machines, counts } = change.forerunners.pairs();
+    let Pairs {
+        len,
+        machines,
+        counts,
+    } = change.forerunners.pairs();
     let after = after_text(heap, &machines[0..len], &counts[0..len])?;
     let head = change_head_text(heap, change)?;
     format!(heap, "{head}{after}")
@@ -101,7 +121,14 @@ pub fn frame_text(heap: Global, frame: &Frame<Level>) -> Result<String, AllocErr
         }
         Frame::QuestionContribution(c) => {
             let value = level_text(heap, c.value)?;
-            contribution_text(heap, "question", c.ballot, c.round, value.as_str(), c.sender)
+            contribution_text(
+                heap,
+                "question",
+                c.ballot,
+                c.round,
+                value.as_str(),
+                c.sender,
+            )
         }
         Frame::QuestionFill(f) => {
             let value = level_text(heap, f.value)?;

@@ -36,7 +36,7 @@ module _ (h ms cs : List ℕ) where
       let f1 : b1 ≡ h ++ drop (length h) b = simp zero-add at e1 in
       let f2 : b2 ≡ (h ++ ms) ++ drop (length h + length ms) b = (rw f1 at e2) ∙ part-behind h ms b (length h) refl in
       let f3 : b3 ≡ ((h ++ ms) ++ cs) ++ drop (length h + length ms + length cs) b =
-              (rw f2 at e3) ∙ part-behind (h ++ ms) cs b (length h + length ms) (length-append h ms)
+      (rw f2 at e3) ∙ part-behind (h ++ ms) cs b (length h + length ms) (length-append h ms)
       in
       f3 ∙ rw (length-parts, append-assoc h ms cs)
 

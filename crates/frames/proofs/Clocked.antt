@@ -82,11 +82,12 @@ module _ (clock ms cs : List ℕ) (j next : ℕ) (below : j < 9) (same : length 
       → next′ ≡ next + 1
       → Filled-up-to (j + 1) next′ clock′ ms cs
   named clock′ next′ more is e f =
-      rw (e, f)
-      ( length-set clock j (getD cs next 0) ∙ kept .0
-      , λ k h. let ne : k ≢ j = omega arith in rw getD-set-other (kept .1 k (omega arith))
-      , omega arith
-      , joins-named more is ∙ kept .3 )
+      rw (e, f) (
+        length-set clock j (getD cs next 0) ∙ kept .0,
+        λ k h. let ne : k ≢ j = omega arith in rw getD-set-other (kept .1 k (omega arith)),
+        omega arith,
+        joins-named more is ∙ kept .3,
+      )
 
   pub not-named :
       (clock′ : List ℕ) (next′ : ℕ)
@@ -109,33 +110,34 @@ pub machines-push :
     → machines-of j (clock ++ c ∷ []) ≡ machines-of j clock ++ cond (eqb c 0) [] ((j + length clock) ∷ [])
 machines-push j [] c = go (eqb c 0)
   where
-  go : (b : Bool) → cond b [] (j ∷ []) ≡ cond b [] ((j + 0) ∷ [])
-  go true = refl
-  go false = ap (λ x. x ∷ []) (omega arith)
+    go : (b : Bool) → cond b [] (j ∷ []) ≡ cond b [] ((j + 0) ∷ [])
+    go true = refl
+    go false = ap (λ x. x ∷ []) (omega arith)
 machines-push j (x ∷ clock) c = go (eqb x 0) (machines-push (j + 1) clock c)
   where
-  shift : j + 1 + length clock ≡ j + length (x ∷ clock)
-  shift = omega arith
-  go :
-      (b : Bool)
-      → machines-of (j + 1) (clock ++ c ∷ []) ≡ machines-of (j + 1) clock ++ cond (eqb c 0) [] ((j + 1 + length clock) ∷ [])
-      → cond b (machines-of (j + 1) (clock ++ c ∷ [])) (j ∷ machines-of (j + 1) (clock ++ c ∷ []))
-      ≡ cond b (machines-of (j + 1) clock) (j ∷ machines-of (j + 1) clock) ++ cond (eqb c 0) [] ((j + length (x ∷ clock)) ∷ [])
-  go true e = rw (← shift) e
-  go false e = rw (← shift) (ap (λ r. j ∷ r) e)
+    shift : j + 1 + length clock ≡ j + length (x ∷ clock)
+    shift = omega arith
+
+    go :
+        (b : Bool)
+        → machines-of (j + 1) (clock ++ c ∷ []) ≡ machines-of (j + 1) clock ++ cond (eqb c 0) [] ((j + 1 + length clock) ∷ [])
+        → cond b (machines-of (j + 1) (clock ++ c ∷ [])) (j ∷ machines-of (j + 1) (clock ++ c ∷ []))
+        ≡ cond b (machines-of (j + 1) clock) (j ∷ machines-of (j + 1) clock) ++ cond (eqb c 0) [] ((j + length (x ∷ clock)) ∷ [])
+    go true e = rw (← shift) e
+    go false e = rw (← shift) (ap (λ r. j ∷ r) e)
 
 pub counts-push :
     (clock : List ℕ) (c : ℕ) → counts-of (clock ++ c ∷ []) ≡ counts-of clock ++ cond (eqb c 0) [] (c ∷ [])
 counts-push [] c = refl
 counts-push (x ∷ clock) c = go (eqb x 0) (counts-push clock c)
   where
-  go :
-      (b : Bool)
-      → counts-of (clock ++ c ∷ []) ≡ counts-of clock ++ cond (eqb c 0) [] (c ∷ [])
-      → cond b (counts-of (clock ++ c ∷ [])) (x ∷ counts-of (clock ++ c ∷ []))
-      ≡ cond b (counts-of clock) (x ∷ counts-of clock) ++ cond (eqb c 0) [] (c ∷ [])
-  go true e = e
-  go false e = ap (λ r. x ∷ r) e
+    go :
+        (b : Bool)
+        → counts-of (clock ++ c ∷ []) ≡ counts-of clock ++ cond (eqb c 0) [] (c ∷ [])
+        → cond b (counts-of (clock ++ c ∷ [])) (x ∷ counts-of (clock ++ c ∷ []))
+        ≡ cond b (counts-of clock) (x ∷ counts-of clock) ++ cond (eqb c 0) [] (c ∷ [])
+    go true e = e
+    go false e = ap (λ r. x ∷ r) e
 
 -- the loop over the counts of a clock: the first `len` of both tables are the pairs of the first i counts
 abbrev pub Paired-up-to : ℕ → ℕ → ℕ → List ℕ → List ℕ → List ℕ → Type 0
@@ -170,13 +172,14 @@ module _ (clock ms cs : List ℕ) (i machine len : ℕ) (more : i < length clock
       let t : eqb (getD clock i 0) 0 ≡ false = ne-eqb (getD clock i 0) 0 some in
       let a = take-more-set ms len machine (omega (arith, kept .1, kept .2)) in
       let b = take-more-set cs len (getD clock i 0) (omega (arith, kept .1, kept .3)) in
-      rw (e, f, g)
-      ( omega (arith, kept .0)
-      , omega (arith, kept .1)
-      , length-set ms len machine ∙ kept .2
-      , length-set cs len (getD clock i 0) ∙ kept .3
-      , rw (a, next-machines, t, kept .4)
-      , rw (b, next-counts, t, kept .5) )
+      rw (e, f, g) (
+        omega (arith, kept .0),
+        omega (arith, kept .1),
+        length-set ms len machine ∙ kept .2,
+        length-set cs len (getD clock i 0) ∙ kept .3,
+        rw (a, next-machines, t, kept .4),
+        rw (b, next-counts, t, kept .5),
+      )
 
   pub unpaired :
       (ms′ cs′ : List ℕ) (len′ : ℕ)
@@ -187,10 +190,11 @@ module _ (clock ms cs : List ℕ) (i machine len : ℕ) (more : i < length clock
       → Paired-up-to (i + 1) (machine + 1) len′ ms′ cs′ clock
   unpaired ms′ cs′ len′ none e f g =
       let t : eqb (getD clock i 0) 0 ≡ true = eq-eqb (getD clock i 0) 0 none in
-      rw (e, f, g)
-      ( omega (arith, kept .0)
-      , omega (arith, kept .1)
-      , kept .2
-      , kept .3
-      , rw (next-machines, t, append-nil) (kept .4)
-      , rw (next-counts, t, append-nil) (kept .5) )
+      rw (e, f, g) (
+        omega (arith, kept .0),
+        omega (arith, kept .1),
+        kept .2,
+        kept .3,
+        rw (next-machines, t, append-nil) (kept .4),
+        rw (next-counts, t, append-nil) (kept .5),
+      )

@@ -52,7 +52,7 @@ module _ {Q : Type 0} (K : Kind Q) (four : K .contribution ≡ 4) (five : K .fil
   as-fill is =
       as-question (omega arith)
       ∙ (cond-false _ _ _ (ne-eqb (byte b 0) (K .contribution) (λ e. omega arith))
-        ∙ cond-true _ _ _ (eq-eqb (byte b 0) (K .fill) (omega arith)))
+      ∙ cond-true _ _ _ (eq-eqb (byte b 0) (K .fill) (omega arith)))
 
 module _ {Q : Type 0} (K : Kind Q) (L : Lawful K) (four : K .contribution ≡ 4) (five : K .fill ≡ 5) where
   pub reads-back : Reads-back K
@@ -90,15 +90,15 @@ module _ {Q : Type 0} (K : Kind Q) (L : Lawful K) (four : K .contribution ≡ 4)
     pub only-spelling : reading K n b ≡ Ok f → Valid K n f × (b ≡ spelling K f)
     only-spelling =
         step (eqb (byte b 0) 1) _ _
-            (λ is. from-layout Change _ (λ c. change-only n one nine b bytes c (eqb-true (byte b 0) 1 is)))
+        (λ is. from-layout Change _ (λ c. change-only n one nine b bytes c (eqb-true (byte b 0) 1 is)))
         (step (eqb (byte b 0) (mark-kind .contribution)) _ _
-            (λ is. from-layout PlaceContribution _ (λ c. contribution-only mark-kind mark-lawful n one nine b bytes c (eqb-true (byte b 0) 2 is)))
+        (λ is. from-layout PlaceContribution _ (λ c. contribution-only mark-kind mark-lawful n one nine b bytes c (eqb-true (byte b 0) 2 is)))
         (step (eqb (byte b 0) (mark-kind .fill)) _ _
-            (λ is. from-layout PlaceFill _ (λ g. fill-only mark-kind mark-lawful n one nine b bytes g (eqb-true (byte b 0) 3 is)))
+        (λ is. from-layout PlaceFill _ (λ g. fill-only mark-kind mark-lawful n one nine b bytes g (eqb-true (byte b 0) 3 is)))
         (step (eqb (byte b 0) (K .contribution)) _ _
-            (λ is. from-layout QuestionContribution _ (λ c. contribution-only K L n one nine b bytes c (eqb-true (byte b 0) (K .contribution) is)))
+        (λ is. from-layout QuestionContribution _ (λ c. contribution-only K L n one nine b bytes c (eqb-true (byte b 0) (K .contribution) is)))
         (step (eqb (byte b 0) (K .fill)) _ _
-            (λ is. from-layout QuestionFill _ (λ g. fill-only K L n one nine b bytes g (eqb-true (byte b 0) (K .fill) is)))
+        (λ is. from-layout QuestionFill _ (λ g. fill-only K L n one nine b bytes g (eqb-true (byte b 0) (K .fill) is)))
         (λ e. absurd (let z : _≡_ {A = ℕ} 0 1 = cc in omega arith))))))
 
   pub spelled : (n : ℕ) → 1 ≤ n → n ≤ 9 → (b : List ℕ) → Bytes b → (r : Result (Frame Q) FrameFault) → r ≡ reading K n b → Spelled K n b r
@@ -115,20 +115,20 @@ module _ {Q : Type 0} (K : Kind Q) (L : Lawful K) (four : K .contribution ≡ 4)
   found-back f before after (Err fault) answer is = tt
   found-back f before after (Ok len) answer is = λ n one nine v. go n one nine v (cases-bool (leb (length s) (length before)))
     where
-    s : List ℕ
-    s = spelling K f
+      s : List ℕ
+      s = spelling K f
 
-    go :
-        (n : ℕ) → 1 ≤ n → n ≤ 9 → Valid K n f
-        → (leb (length s) (length before) ≡ true) ⊎ (leb (length s) (length before) ≡ false)
-        → reading K n (take len after) ≡ Ok f
-    go n one nine v (inl room) =
-        let told : len ≡ length s = let e = answer ∙ cond-true _ _ _ room in cc in
-        let there : after ≡ s ++ drop (length s) before = is ∙ cond-true _ _ _ room in
-        let front : take len after ≡ s = rw (told, there) (take-at s _ _ refl) in
-        ap (reading K n) front ∙ reads-back n f one nine v
-    go n one nine v (inr short) =
-        absurd (let e = answer ∙ cond-false _ _ _ short in let z : _≡_ {A = ℕ} 0 1 = cc in omega arith)
+      go :
+          (n : ℕ) → 1 ≤ n → n ≤ 9 → Valid K n f
+          → (leb (length s) (length before) ≡ true) ⊎ (leb (length s) (length before) ≡ false)
+          → reading K n (take len after) ≡ Ok f
+      go n one nine v (inl room) =
+          let told : len ≡ length s = let e = answer ∙ cond-true _ _ _ room in cc in
+          let there : after ≡ s ++ drop (length s) before = is ∙ cond-true _ _ _ room in
+          let front : take len after ≡ s = rw (told, there) (take-at s _ _ refl) in
+          ap (reading K n) front ∙ reads-back n f one nine v
+      go n one nine v (inr short) =
+          absurd (let e = answer ∙ cond-false _ _ _ short in let z : _≡_ {A = ℕ} 0 1 = cc in omega arith)
 
   pub same-from-same-bytes : Same-from-same-bytes K
   same-from-same-bytes n b f g e h = cc

@@ -1,8 +1,9 @@
-pub mod Rows
-pub mod Clocked
 pub mod Buffers
-pub mod Words
-pub mod Voted
-pub mod Paired
 pub mod Changed
+pub mod Clocked
+pub mod Covered
 pub mod Framed
+pub mod Paired
+pub mod Tables
+pub mod Voted
+pub mod Words

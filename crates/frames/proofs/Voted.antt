@@ -74,17 +74,18 @@ module _ {V : Type 0} (K : Kind V) (L : Lawful K) (n : ℕ) (one : 1 ≤ n) (nin
         let ballot = within-parts 1 (K .highest) (word b 2) (hold .1 .0) in
         let round = within-parts 1 60000 (word b 4) (hold .1 .1 .0) in
         let reads = hold .1 .1 .1 .0 in
-        subst P (a .2)
-        ( record
-            { sender-least = sender .0
-            ; sender-most = sender .1
-            ; ballot-least = ballot .0
-            ; ballot-most = ballot .1
-            ; round-least = round .0
-            ; round-most = round .1
-            ; value-exists = L .good n (byte b 6) (byte b 7) one nine (bytes 6) (bytes 7) reads
-            }
-        , contribution-spelled (eqb-true (length b) 8 (a .0)) kind reads )
+        subst P (a .2) (
+          record {
+            sender-least = sender .0;
+            sender-most = sender .1;
+            ballot-least = ballot .0;
+            ballot-most = ballot .1;
+            round-least = round .0;
+            round-most = round .1;
+            value-exists = L .good n (byte b 6) (byte b 7) one nine (bytes 6) (bytes 7) reads;
+          },
+          contribution-spelled (eqb-true (length b) 8 (a .0)) kind reads,
+        )
 
     fill-spelled :
         length b ≡ 6
@@ -113,12 +114,13 @@ module _ {V : Type 0} (K : Kind V) (L : Lawful K) (n : ℕ) (one : 1 ≤ n) (nin
         let sender = within-parts 1 n (byte b 1) (hold .0) in
         let ballot = within-parts 1 (K .highest) (word b 2) (hold .1 .0) in
         let reads = hold .1 .1 .0 in
-        subst P (a .2)
-        ( record
-            { sender-least = sender .0
-            ; sender-most = sender .1
-            ; ballot-least = ballot .0
-            ; ballot-most = ballot .1
-            ; value-exists = L .good n (byte b 4) (byte b 5) one nine (bytes 4) (bytes 5) reads
-            }
-        , fill-spelled (eqb-true (length b) 6 (a .0)) kind reads )
+        subst P (a .2) (
+          record {
+            sender-least = sender .0;
+            sender-most = sender .1;
+            ballot-least = ballot .0;
+            ballot-most = ballot .1;
+            value-exists = L .good n (byte b 4) (byte b 5) one nine (bytes 4) (bytes 5) reads;
+          },
+          fill-spelled (eqb-true (length b) 6 (a .0)) kind reads,
+        )

@@ -9,9 +9,9 @@ use mir.Syntax.{w16}
 use mir.Val.{SFits, ofZ, toZ, Fits}
 use mir.ValLaws.{toZ-fits, ofZ-fits, toZ-ofZ, ofZ-toZ}
 use native.Mathlib.Omega.{arith}
-use Rattle.frames.specs.Fields.{Row, Layout, All-hold, Breaks-first, byte, high, low, within, first-bad, unless-bad, answered}
+use Rattle.frames.specs.Fields.{Field, Layout, All-hold, Breaks-first, byte, high, low, within, first-bad, unless-bad, answered}
 use Rattle.frames.specs.declared.fault.FrameFault.{FrameFault}
-use Rattle.frames.specs.declared.fault.FrameFault.the-variants.{Length, Field}
+use Rattle.frames.specs.declared.fault.FrameFault.the-variants.{Length, Field as Broken}
 use Rattle.std.proofs.shelf.Lists.{drop-more}
 use Rattle.std.proofs.shelf.Tests.{le-leb, and-from, and-parts, leb-true}
 use Rattle.std.specs.declared.option.Option.{Option}
@@ -55,36 +55,36 @@ pub within-parts : (least most x : ℕ) → within least most x ≡ true → (le
 within-parts least most x h = let p = and-parts _ _ h in (leb-true least x (p .0), leb-true x most (p .1))
 
 -- no field of a table breaks
-pub all-hold : (rows : List Row) → first-bad rows ≡ None → All-hold rows
+pub all-hold : (table : List Field) → first-bad table ≡ None → All-hold table
 all-hold [] h = tt
 all-hold (r ∷ rs) h = go (r .holds) (all-hold rs) h
   where
-  go :
-      (b : Bool)
-      → (first-bad rs ≡ None → All-hold rs)
-      → cond b (first-bad rs) (Some (r .at)) ≡ None
-      → (b ≡ true) × All-hold rs
-  go true more e = (refl, more e)
-  go false more e = absurd (let z : _≡_ {A = ℕ} 0 1 = cc in omega arith)
+    go :
+        (b : Bool)
+        → (first-bad rs ≡ None → All-hold rs)
+        → cond b (first-bad rs) (Some (r .at)) ≡ None
+        → (b ≡ true) × All-hold rs
+    go true more e = (refl, more e)
+    go false more e = absurd (let z : _≡_ {A = ℕ} 0 1 = cc in omega arith)
 
 -- a table behind another
-pub hold-parts : (front back : List Row) → All-hold (front ++ back) → All-hold front × All-hold back
+pub hold-parts : (front back : List Field) → All-hold (front ++ back) → All-hold front × All-hold back
 hold-parts [] back h = (tt, h)
 hold-parts (r ∷ rs) back h = let parts = hold-parts rs back (h .1) in ((h .0, parts .0), parts .1)
 
 -- the field that a table tells is one of its own, it breaks, and none before it does
-pub breaks-first : (rows : List Row) (at : ℕ) → first-bad rows ≡ Some at → Breaks-first rows at
+pub breaks-first : (table : List Field) (at : ℕ) → first-bad table ≡ Some at → Breaks-first table at
 breaks-first [] at h = absurd (let z : _≡_ {A = ℕ} 0 1 = cc in omega arith)
 breaks-first (r ∷ rs) at h = go (r .holds) refl (breaks-first rs at) h
   where
-  go :
-      (b : Bool)
-      → r .holds ≡ b
-      → (first-bad rs ≡ Some at → Breaks-first rs at)
-      → cond b (first-bad rs) (Some (r .at)) ≡ Some at
-      → Breaks-first (r ∷ rs) at
-  go true is more e = let m = more e in (r ∷ m .0, m .1, m .2, ap (λ xs. r ∷ xs) (m .3), (is, m .4), m .5, m .6)
-  go false is more e = ([], r, rs, refl, tt, is, cc)
+    go :
+        (b : Bool)
+        → r .holds ≡ b
+        → (first-bad rs ≡ Some at → Breaks-first rs at)
+        → cond b (first-bad rs) (Some (r .at)) ≡ Some at
+        → Breaks-first (r ∷ rs) at
+    go true is more e = let m = more e in (r ∷ m .0, m .1, m .2, ap (λ xs. r ∷ xs) (m .3), (is, m .4), m .5, m .6)
+    go false is more e = ([], r, rs, refl, tt, is, cc)
 
 -- a layout that answers a record is whole, no field breaks, and the record is what the fields show
 pub answered-ok :
@@ -93,14 +93,14 @@ pub answered-ok :
     → (layout .whole ≡ true) × (first-bad (layout .fields) ≡ None) × (layout .shown ≡ f)
 answered-ok {F} layout f h = go (layout .whole) (first-bad (layout .fields)) h
   where
-  go :
-      (b : Bool) (o : Option ℕ)
-      → _≡_ {A = Result F FrameFault} (cond b (unless-bad o (layout .shown)) (Err Length)) (Ok f)
-      → (b ≡ true) × (o ≡ None) × (layout .shown ≡ f)
-  go true None e = (refl, refl, cc)
-  go true (Some at) e = absurd (let z : _≡_ {A = ℕ} 0 1 = cc in omega arith)
-  go false None e = absurd (let z : _≡_ {A = ℕ} 0 1 = cc in omega arith)
-  go false (Some at) e = absurd (let z : _≡_ {A = ℕ} 0 1 = cc in omega arith)
+    go :
+        (b : Bool) (o : Option ℕ)
+        → _≡_ {A = Result F FrameFault} (cond b (unless-bad o (layout .shown)) (Err Length)) (Ok f)
+        → (b ≡ true) × (o ≡ None) × (layout .shown ≡ f)
+    go true None e = (refl, refl, cc)
+    go true (Some at) e = absurd (let z : _≡_ {A = ℕ} 0 1 = cc in omega arith)
+    go false None e = absurd (let z : _≡_ {A = ℕ} 0 1 = cc in omega arith)
+    go false (Some at) e = absurd (let z : _≡_ {A = ℕ} 0 1 = cc in omega arith)
 
 pub ok-answered :
     {F : Type 0} (layout : Layout F)
@@ -115,8 +115,8 @@ module _ (b : List ℕ) where
   front-4 h =
       drop-more b 0 0 (omega arith)
       ∙ ap (λ r. byte b 0 ∷ r)
-          (drop-more b 1 0 (omega arith)
-          ∙ ap (λ r. byte b 1 ∷ r) (drop-more b 2 0 (omega arith) ∙ ap (λ r. byte b 2 ∷ r) (drop-more b 3 0 (omega arith))))
+      (drop-more b 1 0 (omega arith)
+      ∙ ap (λ r. byte b 1 ∷ r) (drop-more b 2 0 (omega arith) ∙ ap (λ r. byte b 2 ∷ r) (drop-more b 3 0 (omega arith))))
 
   pub next-2 : (k : ℕ) → k + 2 ≤ length b → drop k b ≡ byte b k ∷ byte b (k + 1) ∷ drop (k + 1 + 1) b
   next-2 k h = drop-more b k 0 (omega arith) ∙ ap (λ r. byte b k ∷ r) (drop-more b (k + 1) 0 (omega arith))

@@ -7,8 +7,8 @@ use mathlib.Core.List.{List, [], _∷_, _++_}
 use mathlib.Core.Path.{_≡_}
 use mir.Syntax.{w16}
 use mir.Val.{SFits}
-use Rattle.frames.specs.Clocks.{machines-of, counts-of, clock-of, machine-rows, count-rows}
-use Rattle.frames.specs.Fields.{Row, Layout, row, byte, word, high, low, within}
+use Rattle.frames.specs.Clocks.{machines-of, counts-of, clock-of, machine-fields, count-fields}
+use Rattle.frames.specs.Fields.{Field, Layout, field, byte, word, high, low, within}
 use Rattle.frames.specs.declared.frame.Change.{Change}
 use Rattle.values.specs.Levels.{signed-high, signed-low, signed-of}
 
@@ -22,26 +22,26 @@ machines-in bytes = take (pairs bytes) (drop 8 bytes)
 abbrev pub counts-in : List ℕ → List ℕ
 counts-in bytes = drop (pairs bytes) (drop 8 bytes)
 
-abbrev pub fixed-rows : ℕ → List ℕ → List Row
-fixed-rows n bytes =
-    row 2 1 (within 1 n (byte bytes 2))
-    ∷ row 3 1 (within 1 40 (byte bytes 3))
-    ∷ row 4 2 (within 0 999 (word bytes 4))
-    ∷ row 6 2 true
+abbrev pub fixed-fields : ℕ → List ℕ → List Field
+fixed-fields n bytes =
+    field 2 1 (within 1 n (byte bytes 2))
+    ∷ field 3 1 (within 1 40 (byte bytes 3))
+    ∷ field 4 2 (within 0 999 (word bytes 4))
+    ∷ field 6 2 true
     ∷ []
 
-abbrev pub pair-rows : ℕ → List ℕ → List Row
-pair-rows n bytes =
-    machine-rows n (byte bytes 2) 8 0 (machines-in bytes) ++ count-rows (8 + pairs bytes) (counts-in bytes)
+abbrev pub pair-fields : ℕ → List ℕ → List Field
+pair-fields n bytes =
+    machine-fields n (byte bytes 2) 8 0 (machines-in bytes) ++ count-fields (8 + pairs bytes) (counts-in bytes)
 
 abbrev pub change-in : List ℕ → Change
 change-in bytes =
-    record
-    { author = byte bytes 2
-    ; number = byte bytes 3
-    ; setting = word bytes 4
-    ; level = signed-of (byte bytes 6) (byte bytes 7)
-    ; forerunners = record { counts = clock-of 9 1 (machines-in bytes) (counts-in bytes) }
+    record {
+      author = byte bytes 2;
+      number = byte bytes 3;
+      setting = word bytes 4;
+      level = signed-of (byte bytes 6) (byte bytes 7);
+      forerunners = record { counts = clock-of 9 1 (machines-in bytes) (counts-in bytes) };
     }
 
 abbrev pub change-whole : List ℕ → Bool
@@ -49,7 +49,7 @@ change-whole bytes = leb (pairs bytes) 8 && eqb (length bytes) (8 + 2 * pairs by
 
 abbrev pub change-layout : ℕ → List ℕ → Layout Change
 change-layout n bytes =
-    record { whole = change-whole bytes; fields = fixed-rows n bytes ++ pair-rows n bytes; shown = change-in bytes }
+    record { whole = change-whole bytes; fields = fixed-fields n bytes ++ pair-fields n bytes; shown = change-in bytes }
 
 -- the bytes that a change is written in: eight before the pairs, then the machine numbers, then the counts
 abbrev pub head-spelling : Change → ℕ → List ℕ

@@ -3,7 +3,7 @@ use Prim.Native.Nat.{ℕ, zero, suc, _+_}
 use lib.Dec.{leb, ltb, eqb}
 use mathlib.Core.Bool.{Bool, cond, not, _&&_}
 use mathlib.Core.List.{List, [], _∷_}
-use Rattle.frames.specs.Fields.{Row, row, within}
+use Rattle.frames.specs.Fields.{Field, field, within}
 
 -- the machine numbers of a clock's pairs, rising; the clock begins at machine j
 abbrev pub machines-of : ℕ → List ℕ → List ℕ
@@ -28,12 +28,12 @@ abbrev pub machine-fits : ℕ → ℕ → ℕ → ℕ → Bool
 machine-fits n author previous m = ltb previous m && (leb m n && not (eqb m author))
 
 -- machine numbers from an offset on
-abbrev pub machine-rows : ℕ → ℕ → ℕ → ℕ → List ℕ → List Row
-machine-rows n author at previous [] = []
-machine-rows n author at previous (m ∷ machines) =
-    row at 1 (machine-fits n author previous m) ∷ machine-rows n author (at + 1) m machines
+abbrev pub machine-fields : ℕ → ℕ → ℕ → ℕ → List ℕ → List Field
+machine-fields n author at previous [] = []
+machine-fields n author at previous (m ∷ machines) =
+    field at 1 (machine-fits n author previous m) ∷ machine-fields n author (at + 1) m machines
 
 -- counts from an offset on: each is 1 to 40
-abbrev pub count-rows : ℕ → List ℕ → List Row
-count-rows at [] = []
-count-rows at (c ∷ counts) = row at 1 (within 1 40 c) ∷ count-rows (at + 1) counts
+abbrev pub count-fields : ℕ → List ℕ → List Field
+count-fields at [] = []
+count-fields at (c ∷ counts) = field at 1 (within 1 40 c) ∷ count-fields (at + 1) counts

@@ -1,10 +1,12 @@
 -- Frames of every kind: what bytes read as, what a frame is written in, and which frames there are.
 use Prim.Native.Nat.{ℕ}
 use lib.Dec.{eqb}
-use mathlib.Core.Bool.{cond}
+use lib.ListN.{length}
+use mathlib.Core.Bool.{true, cond}
 use mathlib.Core.List.{List}
+use mathlib.Core.Path.{_≡_}
 use Rattle.frames.specs.Changes.{change-layout, change-spelling, ValidChange}
-use Rattle.frames.specs.Fields.{byte, answered}
+use Rattle.frames.specs.Fields.{Back-to-back, byte, answered}
 use Rattle.frames.specs.Votes.{contribution-layout, contribution-spelling, ValidContribution, fill-layout, fill-spelling, ValidFill}
 use Rattle.frames.specs.declared.fault.FrameFault.{FrameFault}
 use Rattle.frames.specs.declared.fault.FrameFault.the-variants.{Kind as UnknownKind}
@@ -49,3 +51,16 @@ Valid K n (PlaceContribution c) = ValidContribution mark-kind n c
 Valid K n (PlaceFill f) = ValidFill mark-kind n f
 Valid K n (QuestionContribution c) = ValidContribution K n c
 Valid K n (QuestionFill f) = ValidFill K n f
+
+-- in bytes of the right length every byte behind the kind, and behind m in a change, belongs to exactly one field
+abbrev pub Change-covered : Type 0
+Change-covered =
+    (n : ℕ) (bytes : List ℕ)
+    → change-layout n bytes .whole ≡ true
+    → Back-to-back 2 (change-layout n bytes .fields) (length bytes)
+
+abbrev pub Votes-covered : {V : Type 0} → Kind V → Type 0
+Votes-covered K =
+    (n : ℕ) (bytes : List ℕ)
+    → (contribution-layout K n bytes .whole ≡ true → Back-to-back 1 (contribution-layout K n bytes .fields) (length bytes))
+    × (fill-layout K n bytes .whole ≡ true → Back-to-back 1 (fill-layout K n bytes .fields) (length bytes))

@@ -1,10 +1,10 @@
+pub mod Changes
+pub mod Clocks
 pub mod Faults
 pub mod Fields
-pub mod Clocks
-pub mod Changes
-pub mod Votes
 pub mod Frames
 pub mod Heads
-pub mod Writing
 pub mod Spelled
+pub mod Votes
 pub mod Worked
+pub mod Writing

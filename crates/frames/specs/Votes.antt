@@ -5,29 +5,29 @@ use lib.ListN.{length}
 use mathlib.Core.Bool.{Bool, true}
 use mathlib.Core.List.{List, [], _∷_}
 use mathlib.Core.Path.{_≡_}
-use Rattle.frames.specs.Fields.{Row, Layout, row, byte, word, high, low, within}
+use Rattle.frames.specs.Fields.{Field, Layout, field, byte, word, high, low, within}
 use Rattle.frames.specs.declared.frame.Contribution.{Contribution}
 use Rattle.frames.specs.declared.frame.Fill.{Fill}
 use Rattle.values.specs.Kinds.{Kind}
 
 -- both begin, behind the kind byte, with the sender and the ballot's number
-abbrev pub with-head : {V : Type 0} → Kind V → ℕ → List ℕ → List Row → List Row
-with-head K n bytes rows = row 1 1 (within 1 n (byte bytes 1)) ∷ row 2 2 (within 1 (K .highest) (word bytes 2)) ∷ rows
+abbrev pub with-head : {V : Type 0} → Kind V → ℕ → List ℕ → List Field → List Field
+with-head K n bytes rest = field 1 1 (within 1 n (byte bytes 1)) ∷ field 2 2 (within 1 (K .highest) (word bytes 2)) ∷ rest
 
 abbrev pub contribution-layout : {V : Type 0} → Kind V → ℕ → List ℕ → Layout (Contribution V)
 contribution-layout K n bytes =
-    record
-    { whole = eqb (length bytes) 8
-    ; fields =
-        with-head K n bytes
-        (row 4 2 (within 1 60000 (word bytes 4)) ∷ row 6 2 (K .reads n (byte bytes 6) (byte bytes 7)) ∷ [])
-    ; shown =
-        record
-        { sender = byte bytes 1
-        ; ballot = word bytes 2
-        ; round = word bytes 4
-        ; value = K .value (byte bytes 6) (byte bytes 7)
-        }
+    record {
+      whole = eqb (length bytes) 8;
+      fields =
+          with-head K n bytes
+          (field 4 2 (within 1 60000 (word bytes 4)) ∷ field 6 2 (K .reads n (byte bytes 6) (byte bytes 7)) ∷ []);
+      shown =
+          record {
+            sender = byte bytes 1;
+            ballot = word bytes 2;
+            round = word bytes 4;
+            value = K .value (byte bytes 6) (byte bytes 7);
+          };
     }
 
 abbrev pub contribution-spelling : {V : Type 0} → Kind V → Contribution V → List ℕ
@@ -53,15 +53,15 @@ pub record ValidContribution {V : Type 0} (K : Kind V) (n : ℕ) (c : Contributi
 
 abbrev pub fill-layout : {V : Type 0} → Kind V → ℕ → List ℕ → Layout (Fill V)
 fill-layout K n bytes =
-    record
-    { whole = eqb (length bytes) 6
-    ; fields = with-head K n bytes (row 4 2 (K .reads n (byte bytes 4) (byte bytes 5)) ∷ [])
-    ; shown =
-        record
-        { sender = byte bytes 1
-        ; ballot = word bytes 2
-        ; value = K .value (byte bytes 4) (byte bytes 5)
-        }
+    record {
+      whole = eqb (length bytes) 6;
+      fields = with-head K n bytes (field 4 2 (K .reads n (byte bytes 4) (byte bytes 5)) ∷ []);
+      shown =
+          record {
+            sender = byte bytes 1;
+            ballot = word bytes 2;
+            value = K .value (byte bytes 4) (byte bytes 5);
+          };
     }
 
 abbrev pub fill-spelling : {V : Type 0} → Kind V → Fill V → List ℕ

@@ -31,11 +31,11 @@ Reads-first-change =
     → n ≤ 9
     → reading level-kind n (0x01 ∷ 0x00 ∷ 0x01 ∷ 0x01 ∷ 0x00 ∷ 0x0C ∷ 0xFF ∷ 0xCE ∷ [])
     ≡ Ok
-        (Change
-            (record
-                { author = 1
-                ; number = 1
-                ; setting = 12
-                ; level = negsuc 49
-                ; forerunners = record { counts = 0 ∷ 0 ∷ 0 ∷ 0 ∷ 0 ∷ 0 ∷ 0 ∷ 0 ∷ 0 ∷ [] }
-                }))
+    (Change
+    (record {
+      author = 1;
+      number = 1;
+      setting = 12;
+      level = negsuc 49;
+      forerunners = record { counts = 0 ∷ 0 ∷ 0 ∷ 0 ∷ 0 ∷ 0 ∷ 0 ∷ 0 ∷ 0 ∷ [] };
+    }))

@@ -1,7 +1,7 @@
 // Reading a change.
 ghost use Prim.Native.Nat.{_+_, _≤_};
-ghost use Rattle.frames.specs.Changes.{change-in, change-layout, change-whole, counts-in, fixed-rows, machines-in, pair-rows, pairs};
-ghost use Rattle.frames.specs.Clocks.{clock-of, count-rows, machine-fits, machine-rows};
+ghost use Rattle.frames.specs.Changes.{change-in, change-layout, change-whole, counts-in, fixed-fields, machines-in, pair-fields, pairs};
+ghost use Rattle.frames.specs.Clocks.{clock-of, count-fields, machine-fits, machine-fields};
 ghost use Rattle.frames.specs.Fields.{answered, first-bad, within};
 ghost use lib.ListN.{length};
 ghost use mathlib.Core.Bool.{true};
@@ -28,7 +28,7 @@ fn count_holds(count: u8) -> bool
 // The offset of the first machine number that breaks its rule; the first of them stands at offset 8.
 fn bad_machine(fleet: FleetSize, author: u8, machines: &[u8]) -> Option<u8>
     requires { ⌜ length (now machines) ≤ 8 ⌝ }
-    ensures { λ r. ⌜ r ≡ first-bad (machine-rows (fleet .machines) author 8 0 (now (machines .entry))) ⌝ }
+    ensures { λ r. ⌜ r ≡ first-bad (machine-fields (fleet .machines) author 8 0 (now (machines .entry))) ⌝ }
 {
     let mut at: u8 = 8;
     let mut previous: u8 = 0;
@@ -45,7 +45,7 @@ fn bad_machine(fleet: FleetSize, author: u8, machines: &[u8]) -> Option<u8>
 // The offset of the first count that breaks its range; the first of them stands at `first`.
 fn bad_count(first: u8, counts: &[u8]) -> Option<u8>
     requires { ⌜ first + length (now counts) ≤ 24 ⌝ }
-    ensures { λ r. ⌜ r ≡ first-bad (count-rows first (now (counts .entry))) ⌝ }
+    ensures { λ r. ⌜ r ≡ first-bad (count-fields first (now (counts .entry))) ⌝ }
 {
     let mut at = first;
     for count in counts {
@@ -83,7 +83,7 @@ fn is_whole(bytes: &[u8]) -> bool
 // The offset of the first field before the pairs that breaks its range. The level has none.
 fn bad_fixed(fleet: FleetSize, bytes: &[u8]) -> Option<u8>
     requires { ⌜ change-whole (now bytes) ≡ true ⌝ }
-    ensures { λ r. ⌜ r ≡ first-bad (fixed-rows (fleet .machines) (now (bytes .entry))) ⌝ }
+    ensures { λ r. ⌜ r ≡ first-bad (fixed-fields (fleet .machines) (now (bytes .entry))) ⌝ }
 {
     if bytes[2] < 1 || fleet.machines < bytes[2] {
         return Some(2);
@@ -111,7 +111,7 @@ fn parts(bytes: &[u8]) -> (&[u8], &[u8])
 // The offset of the first machine number or count that breaks its rule.
 fn bad_pair(fleet: FleetSize, bytes: &[u8]) -> Option<u8>
     requires { ⌜ change-whole (now bytes) ≡ true ⌝ }
-    ensures { λ r. ⌜ r ≡ first-bad (pair-rows (fleet .machines) (now (bytes .entry))) ⌝ }
+    ensures { λ r. ⌜ r ≡ first-bad (pair-fields (fleet .machines) (now (bytes .entry))) ⌝ }
 {
     let (machines, counts) = parts(bytes);
     match bad_machine(fleet, bytes[2], machines) {
@@ -131,7 +131,9 @@ fn shown(bytes: &[u8]) -> Change
         number: bytes[3],
         setting: u16::from_be_bytes([bytes[4], bytes[5]]),
         level: i16::from_be_bytes([bytes[6], bytes[7]]),
-        forerunners: Forerunners { counts: clock(machines, counts) },
+        forerunners: Forerunners {
+            counts: clock(machines, counts),
+        },
     }
 }
 

@@ -5,7 +5,7 @@ ghost use lib.ListN.{length, take};
 ghost use mathlib.Core.Path.{_≡_};
 use crate::frame::Forerunners;
 
-// The machine numbers of the pairs, rising, and their counts in the same order; `len` of each, then zeros.
+// The machine numbers of the pairs, rising, and their counts in the same order: the first `len` of each.
 #[derive(Clone, Copy)]
 pub struct Pairs {
     pub len: usize,
@@ -31,7 +31,11 @@ fn pairs_of(clock: &[u8; 9]) -> Pairs
         }
         machine += 1;
     }
-    Pairs { len, machines, counts }
+    Pairs {
+        len,
+        machines,
+        counts,
+    }
 }
 
 impl Forerunners {

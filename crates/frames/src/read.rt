@@ -8,12 +8,12 @@ ghost use mathlib.Core.List.{[]};
 ghost use Rattle.frames.specs.Frames.{question-reading, reading};
 ghost use Rattle.frames.specs.Spelled.{Spelled};
 ghost use mathlib.Core.Path.{_≡_};
-use crate::fault::FrameFault;
 use crate::change::read_change;
+use crate::fault::FrameFault;
 use crate::frame::Change;
-use crate::frame::Frame;
 use crate::frame::Contribution;
 use crate::frame::Fill;
+use crate::frame::Frame;
 use values::fleet_size::FleetSize;
 use values::kind::QuestionKind;
 use values::kind::ValueKind;
@@ -45,7 +45,10 @@ fn read_head<V: ValueKind>(fleet: FleetSize, bytes: &[u8]) -> Result<Head, Frame
 }
 
 // A contribution to a ballot of the kind V, whatever the first byte is.
-fn read_contribution<V: ValueKind>(fleet: FleetSize, bytes: &[u8]) -> Result<Contribution<V>, FrameFault>
+fn read_contribution<V: ValueKind>(
+    fleet: FleetSize,
+    bytes: &[u8],
+) -> Result<Contribution<V>, FrameFault>
     ensures { λ r. ⌜ r ≡ answered (contribution-layout (V·ValueKind .kind) (fleet .machines) (now (bytes .entry))) ⌝ }
 {
     if bytes.len() != 8 {
@@ -57,7 +60,12 @@ fn read_contribution<V: ValueKind>(fleet: FleetSize, bytes: &[u8]) -> Result<Con
         return Err(FrameFault::Field(4));
     }
     match V::read(fleet.machines, bytes[6], bytes[7]) {
-        Some(value) => Ok(Contribution { sender, ballot, round, value }),
+        Some(value) => Ok(Contribution {
+            sender,
+            ballot,
+            round,
+            value,
+        }),
         None => Err(FrameFault::Field(6)),
     }
 }
@@ -71,7 +79,11 @@ fn read_fill<V: ValueKind>(fleet: FleetSize, bytes: &[u8]) -> Result<Fill<V>, Fr
     }
     let Head { sender, ballot } = read_head::<V>(fleet, bytes)?;
     match V::read(fleet.machines, bytes[4], bytes[5]) {
-        Some(value) => Ok(Fill { sender, ballot, value }),
+        Some(value) => Ok(Fill {
+            sender,
+            ballot,
+            value,
+        }),
         None => Err(FrameFault::Field(4)),
     }
 }

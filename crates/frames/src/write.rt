@@ -46,7 +46,16 @@ fn contribution_bytes<V: ValueKind>(c: Contribution<V>) -> [u8; 8]
     let ballot = c.ballot.to_be_bytes();
     let round = c.round.to_be_bytes();
     let value = c.value.write();
-    [V::contribution_kind(), c.sender, ballot[0], ballot[1], round[0], round[1], value[0], value[1]]
+    [
+        V::contribution_kind(),
+        c.sender,
+        ballot[0],
+        ballot[1],
+        round[0],
+        round[1],
+        value[0],
+        value[1],
+    ]
 }
 
 fn fill_bytes<V: ValueKind>(f: Fill<V>) -> [u8; 6]
@@ -54,7 +63,14 @@ fn fill_bytes<V: ValueKind>(f: Fill<V>) -> [u8; 6]
 {
     let ballot = f.ballot.to_be_bytes();
     let value = f.value.write();
-    [V::fill_kind(), f.sender, ballot[0], ballot[1], value[0], value[1]]
+    [
+        V::fill_kind(),
+        f.sender,
+        ballot[0],
+        ballot[1],
+        value[0],
+        value[1],
+    ]
 }
 
 // The eight bytes of a change before its pairs.
@@ -63,11 +79,25 @@ fn change_head(change: &Change, pairs: u8) -> [u8; 8]
 {
     let setting = change.setting.to_be_bytes();
     let level = change.level.to_be_bytes();
-    [Change::KIND, pairs, change.author, change.number, setting[0], setting[1], level[0], level[1]]
+    [
+        Change::KIND,
+        pairs,
+        change.author,
+        change.number,
+        setting[0],
+        setting[1],
+        level[0],
+        level[1],
+    ]
 }
 
 // Puts three parts one behind the other at the front of the buffer, or refuses where it is too short.
-fn put_parts(buffer: &mut [u8], head: &[u8], machines: &[u8], counts: &[u8]) -> Result<usize, BufferTooShort>
+fn put_parts(
+    buffer: &mut [u8],
+    head: &[u8],
+    machines: &[u8],
+    counts: &[u8],
+) -> Result<usize, BufferTooShort>
     requires { ⌜ length (now head) + (length (now machines) + length (now counts)) ≤ 26 ⌝ }
     ensures answer { λ r. ⌜ r ≡ write-answer (now (head .entry) ++ (now (machines .entry) ++ now (counts .entry))) (now (buffer .entry)) ⌝ }
     ensures after { λ _. ⌜ now (buffer .exit) ≡ written (now (head .entry) ++ (now (machines .entry) ++ now (counts .entry))) (now (buffer .entry)) ⌝ }
@@ -88,12 +118,19 @@ fn write_change(change: &Change, buffer: &mut [u8]) -> Result<usize, BufferTooSh
     ensures answer { λ r. ⌜ r ≡ write-answer (change-spelling (now (change .entry))) (now (buffer .entry)) ⌝ }
     ensures after { λ _. ⌜ now (buffer .exit) ≡ written (change-spelling (now (change .entry))) (now (buffer .entry)) ⌝ }
 {
-    let Pairs { len, machines, counts } = change.forerunners.pairs();
+    let Pairs {
+        len,
+        machines,
+        counts,
+    } = change.forerunners.pairs();
     let head = change_head(change, len as u8);
     put_parts(buffer, &head, &machines[0..len], &counts[0..len])
 }
 
-fn write_by_kind<Q: QuestionKind>(frame: &Frame<Q>, buffer: &mut [u8]) -> Result<usize, BufferTooShort>
+fn write_by_kind<Q: QuestionKind>(
+    frame: &Frame<Q>,
+    buffer: &mut [u8],
+) -> Result<usize, BufferTooShort>
     ensures answer { λ r. ⌜ r ≡ write-answer (spelling (Q·ValueKind .kind) (now (frame .entry))) (now (buffer .entry)) ⌝ }
     ensures after { λ _. ⌜ now (buffer .exit) ≡ written (spelling (Q·ValueKind .kind) (now (frame .entry))) (now (buffer .entry)) ⌝ }
 {

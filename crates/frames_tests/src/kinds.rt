@@ -18,16 +18,28 @@ fn a_fleet_has_1_to_9_machines() -> Result<(), Fail> {
 #[test]
 fn kinds_state_their_numbers() -> Result<(), Fail> {
     check_eq((Mark::HIGHEST, Mark::CONTRIBUTION, Mark::FILL), (360, 2, 3))?;
-    check_eq((Level::HIGHEST, Level::CONTRIBUTION, Level::FILL), (20, 4, 5))
+    check_eq(
+        (Level::HIGHEST, Level::CONTRIBUTION, Level::FILL),
+        (20, 4, 5),
+    )
 }
 
 #[test]
 fn marks_go_by_number_then_author() -> Result<(), Fail> {
-    let early = Mark { author: 2, number: 1 };
-    let late = Mark { author: 1, number: 3 };
+    let early = Mark {
+        author: 2,
+        number: 1,
+    };
+    let late = Mark {
+        author: 1,
+        number: 3,
+    };
     check(early.is_before(late))?;
     check(!late.is_before(early))?;
-    check(late.is_before(Mark { author: 2, number: 3 }))?;
+    check(late.is_before(Mark {
+        author: 2,
+        number: 3,
+    }))?;
     check(!early.is_before(early))
 }
 

@@ -15,13 +15,23 @@ use values::level::LevelQuestion;
 use values::mark::Mark;
 
 fn coldest() -> Frame<Level> {
-    Frame::QuestionFill(Fill { sender: 1, ballot: 3, value: Level(-400) })
+    Frame::QuestionFill(Fill {
+        sender: 1,
+        ballot: 3,
+        value: Level(-400),
+    })
 }
 
 // Setting 12 to -50, after the first three changes of machine 2 and the first of machine 3.
 fn change() -> Frame<Level> {
     let counts = [0, 3, 1, 0, 0, 0, 0, 0, 0];
-    Frame::Change(Change { author: 1, number: 1, setting: 12, level: -50, forerunners: Forerunners { counts } })
+    Frame::Change(Change {
+        author: 1,
+        number: 1,
+        setting: 12,
+        level: -50,
+        forerunners: Forerunners { counts },
+    })
 }
 
 // Every byte that is not written stays 0xAA.
@@ -53,7 +63,25 @@ fn a_short_buffer_is_left_alone() -> Result<(), Fail> {
 fn pairs_are_written_machines_first() -> Result<(), Fail> {
     let mut buffer = [0xAAu8; 14];
     check_eq(write(&change(), &mut buffer).ok(), Some(12))?;
-    check_eq(buffer, [0x01, 0x02, 0x01, 0x01, 0x00, 0x0C, 0xFF, 0xCE, 0x02, 0x03, 0x03, 0x01, 0xAA, 0xAA])
+    check_eq(
+        buffer,
+        [
+            0x01,
+            0x02,
+            0x01,
+            0x01,
+            0x00,
+            0x0C,
+            0xFF,
+            0xCE,
+            0x02,
+            0x03,
+            0x03,
+            0x01,
+            0xAA,
+            0xAA,
+        ],
+    )
 }
 
 #[test]
@@ -65,8 +93,15 @@ fn a_change_needs_room_for_its_pairs() -> Result<(), Fail> {
 
 #[test]
 fn a_contribution_has_its_round_and_value_high_byte_first() -> Result<(), Fail> {
-    let frame: Frame<Level> =
-        Frame::PlaceContribution(Contribution { sender: 4, ballot: 360, round: 60000, value: Mark { author: 2, number: 5 } });
+    let frame: Frame<Level> = Frame::PlaceContribution(Contribution {
+        sender: 4,
+        ballot: 360,
+        round: 60000,
+        value: Mark {
+            author: 2,
+            number: 5,
+        },
+    });
     let mut buffer = [0u8; 8];
     check_eq(write(&frame, &mut buffer).ok(), Some(8))?;
     check_eq(buffer, [0x02, 0x04, 0x01, 0x68, 0xEA, 0x60, 0x02, 0x05])
@@ -100,7 +135,19 @@ fn a_written_change_reads_back() -> Result<(), Fail> {
 
 #[test]
 fn faults_carry_their_numbers() -> Result<(), Fail> {
-    check_eq((FrameFault::Kind.number(), FrameFault::Kind.offset()), (2, 0))?;
-    check_eq((FrameFault::Length.number(), FrameFault::Length.offset()), (3, 0))?;
-    check_eq((FrameFault::Field(23).number(), FrameFault::Field(23).offset()), (4, 23))
+    check_eq(
+        (FrameFault::Kind.number(), FrameFault::Kind.offset()),
+        (2, 0),
+    )?;
+    check_eq(
+        (FrameFault::Length.number(), FrameFault::Length.offset()),
+        (3, 0),
+    )?;
+    check_eq(
+        (
+            FrameFault::Field(23).number(),
+            FrameFault::Field(23).offset(),
+        ),
+        (4, 23),
+    )
 }

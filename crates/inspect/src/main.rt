@@ -17,17 +17,33 @@ fn without_newline(line: &[u8]) -> &[u8] {
 }
 
 fn usage(rt: &LibcRuntime) -> Result<(), AnyError> {
-    println!(rt, "inspect: explains the frames of a radio capture, read from standard input")?;
+    println!(
+        rt,
+        "inspect: explains the frames of a radio capture, read from standard input"
+    )?;
     println!(rt, "")?;
-    println!(rt, "  first line     the number of machines in the fleet, 1 to 9")?;
-    println!(rt, "  further lines  the bytes of one frame each, in hexadecimal; blanks may stand between bytes")?;
+    println!(
+        rt,
+        "  first line     the number of machines in the fleet, 1 to 9"
+    )?;
+    println!(
+        rt,
+        "  further lines  the bytes of one frame each, in hexadecimal; blanks may stand between bytes"
+    )?;
     println!(rt, "")?;
-    println!(rt, "It prints one line for each frame, and at the end how many were good, refused and unreadable.")?;
+    println!(
+        rt,
+        "It prints one line for each frame, and at the end how many were good, refused and unreadable."
+    )?;
     Ok(())
 }
 
 // The lines after the first, one at a time, so that a capture can be followed while it is made.
-fn explain_lines<B: BufRead>(rt: &LibcRuntime, fleet: FleetSize, input: &mut B) -> Result<(), AnyError> {
+fn explain_lines<B: BufRead>(
+    rt: &LibcRuntime,
+    fleet: FleetSize,
+    input: &mut B,
+) -> Result<(), AnyError> {
     let heap = rt.alloc();
     let mut line = Vec::new(heap);
     let mut tally = Tally::new();

@@ -28,14 +28,14 @@ level-of h l = record { 0 = signed-of h l }
 -- by signed size; the same levels exist in every fleet
 abbrev pub level-kind : Kind Level
 level-kind =
-    record
-    { highest = 20
-    ; contribution = 4
-    ; fill = 5
-    ; before = λ v w. ltZ (v .0) (w .0)
-    ; exists = λ n v. level-exists v
-    ; high = λ v. signed-high (v .0)
-    ; low = λ v. signed-low (v .0)
-    ; reads = λ n h l. level-exists (level-of h l)
-    ; value = level-of
+    record {
+      highest = 20;
+      contribution = 4;
+      fill = 5;
+      before = λ v w. ltZ (v .0) (w .0);
+      exists = λ n v. level-exists v;
+      high = λ v. signed-high (v .0);
+      low = λ v. signed-low (v .0);
+      reads = λ n h l. level-exists (level-of h l);
+      value = level-of;
     }

@@ -17,14 +17,14 @@ mark-of author number = record { author = author; number = number }
 
 abbrev pub mark-kind : Kind Mark
 mark-kind =
-    record
-    { highest = 360
-    ; contribution = 2
-    ; fill = 3
-    ; before = mark-before
-    ; exists = mark-exists
-    ; high = λ v. v .author
-    ; low = λ v. v .number
-    ; reads = λ n h l. mark-exists n (mark-of h l)
-    ; value = mark-of
+    record {
+      highest = 360;
+      contribution = 2;
+      fill = 3;
+      before = mark-before;
+      exists = mark-exists;
+      high = λ v. v .author;
+      low = λ v. v .number;
+      reads = λ n h l. mark-exists n (mark-of h l);
+      value = mark-of;
     }

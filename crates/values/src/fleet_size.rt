@@ -19,6 +19,10 @@ impl FleetSize {
     pub fn new(n: u8) -> Option<FleetSize>
         ensures { λ r. ⌜ BySome r (1 ≤ n → n ≤ 9 → ⊥) (λ size. size .machines ≡ n) ⌝ }
     {
-        if 1 <= n && n <= FleetSize::MOST { Some(FleetSize { machines: n }) } else { None }
+        if 1 <= n && n <= FleetSize::MOST {
+            Some(FleetSize { machines: n })
+        } else {
+            None
+        }
     }
 }

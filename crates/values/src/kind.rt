@@ -12,6 +12,7 @@ pub trait ValueKind: Copy {
 
     // The first byte of a contribution to a ballot of the kind, and of a fill.
     const CONTRIBUTION: u8;
+
     const FILL: u8;
 
     ghost kind: { Kind Self };

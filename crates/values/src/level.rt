@@ -10,6 +10,7 @@ pub struct Level(pub i16);
 impl Level {
     // The range of a level that a question can settle on: -40.0 to 120.0 degrees.
     pub const COLDEST: i16 = -400;
+
     pub const WARMEST: i16 = 1200;
 }
 
@@ -45,7 +46,11 @@ pub impl ValueKind for Level as LevelKind {
     // Which levels there are does not depend on the size of the fleet.
     fn read(_n: u8, high: u8, low: u8) -> Option<Level> {
         let tenths = i16::from_be_bytes([high, low]);
-        if Level::COLDEST <= tenths && tenths <= Level::WARMEST { Some(Level(tenths)) } else { None }
+        if Level::COLDEST <= tenths && tenths <= Level::WARMEST {
+            Some(Level(tenths))
+        } else {
+            None
+        }
     }
 }
 

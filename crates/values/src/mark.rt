@@ -46,7 +46,10 @@ pub impl ValueKind for Mark as MarkKind {
 
     fn read(n: u8, high: u8, low: u8) -> Option<Mark> {
         if 1 <= high && high <= n && 1 <= low && low <= Mark::MOST_CHANGES {
-            Some(Mark { author: high, number: low })
+            Some(Mark {
+                author: high,
+                number: low,
+            })
         } else {
             None
         }

@@ -1,6 +1,6 @@
 use native.Mathlib.Omega.{arith}
 use mathlib.Core.Path.{sym, _∙_}
-use Rattle.frames.proofs.Rows.{machine-next, machine-end}
+use Rattle.frames.proofs.Tables.{machine-next, machine-end}
 use Rattle.frames.proofs.change.bad_machine.Needs as need
 use Rattle.std.proofs.shelf.Tests.{cond-true, cond-false}
 

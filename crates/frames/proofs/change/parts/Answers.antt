@@ -8,9 +8,9 @@ returns c =
     let b = c .args .bytes .now in
     let r = take-rest b 8 in
     let l = length-drop 8 b in
-    record
-    { machines = simp take-rest at (c .split-at .ensures .front)
-    ; counts = simp take-rest at (c .split-at .ensures .back)
-    ; both = grind (arith, tells)
-    ; few = c .split-at .ensures .front-len
+    record {
+      machines = simp take-rest at (c .split-at .ensures .front);
+      counts = simp take-rest at (c .split-at .ensures .back);
+      both = grind (arith, tells);
+      few = c .split-at .ensures .front-len;
     }

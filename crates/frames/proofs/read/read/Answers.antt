@@ -7,9 +7,9 @@ returns g c =
     let slot = g .Q·QuestionKind·met .slot in
     let fleet = c .args .fleet in
     let r = c .read-by-kind in
-    record
-    { answer = r .ensures
-    ; spelled =
-        spelled K (g .Q·ValueKind·met .lawful) (slot .1) (slot .2) (fleet .machines) (fleet .some) (fleet .few)
-            (c .args .bytes .now) (λ i. c .typed .bytes i .fits) (r .result) (r .ensures)
+    record {
+      answer = r .ensures;
+      spelled =
+          spelled K (g .Q·ValueKind·met .lawful) (slot .1) (slot .2) (fleet .machines) (fleet .some) (fleet .few)
+          (c .args .bytes .now) (λ i. c .typed .bytes i .fits) (r .result) (r .ensures);
     }

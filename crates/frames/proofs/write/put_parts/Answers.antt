@@ -18,7 +18,7 @@ returns c =
     let b = c .args .buffer .now in
     let t = room h ms cs b (c .if-buffer-end .left) in
     let e =
-        three-parts h ms cs b (c .put-at .last .buffer) (c .put-at-2 .last .buffer) (c .put-at-3 .last .buffer)
-            (c .put-at .ensures) (c .put-at-2 .ensures) (c .put-at-3 .ensures)
+    three-parts h ms cs b (c .put-at .last .buffer) (c .put-at-2 .last .buffer) (c .put-at-3 .last .buffer)
+    (c .put-at .ensures) (c .put-at-2 .ensures) (c .put-at-3 .ensures)
     in
     record { answer = ap Ok (sym (length-parts h ms cs)) ∙ sym (cond-true _ _ _ t); after = e ∙ sym (cond-true _ _ _ t) }
