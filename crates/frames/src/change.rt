@@ -1,7 +1,7 @@
 // Reading a change.
 ghost use Prim.Native.Nat.{_+_, _≤_};
 ghost use Rattle.frames.specs.Changes.{change-in, change-layout, change-whole, counts-in, fixed-fields, machines-in, pair-fields, pairs};
-ghost use Rattle.frames.specs.Clocks.{clock-of, count-fields, machine-fits, machine-fields};
+ghost use Rattle.frames.specs.Clocks.{clock-of, count-fields, machine-fields, machine-fits};
 ghost use Rattle.frames.specs.Fields.{answered, first-bad, within};
 ghost use lib.ListN.{length};
 ghost use mathlib.Core.Bool.{true};

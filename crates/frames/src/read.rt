@@ -1,12 +1,12 @@
 // Reading a frame: bytes to a record, or the first refusal that fits.
-ghost use Rattle.frames.specs.Fields.{answered, first-bad, unless-bad};
-ghost use Rattle.frames.specs.Votes.{contribution-layout, fill-layout, with-head};
-ghost use Rattle.frames.specs.Heads.{head-in};
 ghost use Prim.Native.Nat.{_≤_};
+ghost use Rattle.frames.specs.Fields.{answered, first-bad, unless-bad};
+ghost use Rattle.frames.specs.Frames.{question-reading, reading};
+ghost use Rattle.frames.specs.Heads.{head-in};
+ghost use Rattle.frames.specs.Spelled.{Spelled};
+ghost use Rattle.frames.specs.Votes.{contribution-layout, fill-layout, with-head};
 ghost use lib.ListN.{length};
 ghost use mathlib.Core.List.{[]};
-ghost use Rattle.frames.specs.Frames.{question-reading, reading};
-ghost use Rattle.frames.specs.Spelled.{Spelled};
 ghost use mathlib.Core.Path.{_≡_};
 use crate::change::read_change;
 use crate::fault::FrameFault;

@@ -84,12 +84,19 @@ fn run(rt: &LibcRuntime) -> Result<(), AnyError> {
             if word.as_str() == "--help" || word.as_str() == "-h" {
                 usage(rt)
             } else {
-                Err("inspect takes no words but --help, and reads standard input".into())
+                Err("no words but --help are taken; the capture comes on standard input".into())
             }
         }
     }
 }
 
+// An error is said in one line, and ends the program with status 1.
 fn main(rt: LibcRuntime) -> Result<(), AnyError> {
-    rt.report(run(&rt))
+    match run(&rt) {
+        Ok(()) => Ok(()),
+        Err(error) => {
+            let _ = eprintln!(rt, "inspect: {error}");
+            Err(error)
+        }
+    }
 }
