@@ -42,14 +42,18 @@ contribution-spelling K c =
     ∷ K .low (c .value)
     ∷ []
 
+-- a sender, a ballot and a value that there can be in a fleet of n machines
+pub record ValidVote {V : Type 0} (K : Kind V) (n sender ballot : ℕ) (value : V) : Type 0 where
+  pub sender-least : 1 ≤ sender
+  pub sender-most : sender ≤ n
+  pub ballot-least : 1 ≤ ballot
+  pub ballot-most : ballot ≤ K .highest
+  pub value-exists : K .exists n value ≡ true
+
 pub record ValidContribution {V : Type 0} (K : Kind V) (n : ℕ) (c : Contribution V) : Type 0 where
-  pub sender-least : 1 ≤ c .sender
-  pub sender-most : c .sender ≤ n
-  pub ballot-least : 1 ≤ c .ballot
-  pub ballot-most : c .ballot ≤ K .highest
+  pub vote : ValidVote K n (c .sender) (c .ballot) (c .value)
   pub round-least : 1 ≤ c .round
   pub round-most : c .round ≤ 60000
-  pub value-exists : K .exists n (c .value) ≡ true
 
 abbrev pub fill-layout : {V : Type 0} → Kind V → ℕ → List ℕ → Layout (Fill V)
 fill-layout K n bytes =
@@ -68,9 +72,5 @@ abbrev pub fill-spelling : {V : Type 0} → Kind V → Fill V → List ℕ
 fill-spelling K f =
     K .fill ∷ f .sender ∷ high (f .ballot) ∷ low (f .ballot) ∷ K .high (f .value) ∷ K .low (f .value) ∷ []
 
-pub record ValidFill {V : Type 0} (K : Kind V) (n : ℕ) (f : Fill V) : Type 0 where
-  pub sender-least : 1 ≤ f .sender
-  pub sender-most : f .sender ≤ n
-  pub ballot-least : 1 ≤ f .ballot
-  pub ballot-most : f .ballot ≤ K .highest
-  pub value-exists : K .exists n (f .value) ≡ true
+abbrev pub ValidFill : {V : Type 0} → Kind V → ℕ → Fill V → Type 0
+ValidFill K n f = ValidVote K n (f .sender) (f .ballot) (f .value)
