@@ -24,7 +24,7 @@ use Rattle.std.proofs.shelf.Lists.{take-at}
 use Rattle.std.proofs.shelf.Tests.{cases-bool, cond-true, cond-false, eqb-true, eq-eqb, ne-eqb}
 use Rattle.std.specs.declared.result.Result.{Result}
 use Rattle.std.specs.declared.result.Result.the-variants.{Ok, Err}
-use Rattle.values.proofs.Kept.{mark-lawful}
+use Rattle.values.proofs.Lawfulness.{mark-lawful}
 use Rattle.values.specs.Kinds.{Kind, Lawful}
 use Rattle.values.specs.Marks.{mark-kind}
 

@@ -12,6 +12,12 @@ use crate::frame::Forerunners;
 use values::fleet_size::FleetSize;
 use values::mark::Mark;
 
+// How many bytes stand before the pairs.
+const FIXED_LENGTH: usize = 8;
+
+// Every machine but the author can have a pair.
+const MOST_PAIRS: u8 = FleetSize::MOST - 1;
+
 // Whether a machine number keeps its rule behind the one before it, which is 0 for the first.
 fn machine_holds(fleet: FleetSize, author: u8, previous: u8, machine: u8) -> bool
     ensures { λ r. ⌜ r ≡ machine-fits (fleet .machines) author previous machine ⌝ }
@@ -73,11 +79,13 @@ fn clock(machines: &[u8], counts: &[u8]) -> [u8; 9]
     clock
 }
 
-// Whether the length is right: behind eight bytes come two more for each pair, and there are at most eight pairs.
+// Whether the length is right: behind the fixed bytes come two more for each pair, and there are at most eight pairs.
 fn is_whole(bytes: &[u8]) -> bool
     ensures { λ r. ⌜ r ≡ change-whole (now (bytes .entry)) ⌝ }
 {
-    bytes.len() >= 8 && bytes[1] <= 8 && bytes.len() == 8 + 2 * (bytes[1] as usize)
+    bytes.len() >= FIXED_LENGTH
+        && bytes[1] <= MOST_PAIRS
+        && bytes.len() == FIXED_LENGTH + 2 * (bytes[1] as usize)
 }
 
 // The offset of the first field before the pairs that breaks its range. The level has none.
@@ -105,7 +113,7 @@ fn parts(bytes: &[u8]) -> (&[u8], &[u8])
     ensures both { λ r. ⌜ length (now (r .1)) ≡ length (now (r .0)) ⌝ }
     ensures few { λ r. ⌜ length (now (r .0)) ≡ pairs (now (bytes .entry)) ⌝ }
 {
-    bytes[8..].split_at(bytes[1] as usize)
+    bytes[FIXED_LENGTH..].split_at(bytes[1] as usize)
 }
 
 // The offset of the first machine number or count that breaks its rule.

@@ -23,6 +23,11 @@ use values::mark::MarkKind;
 // The highest round of a ballot.
 pub const LAST_ROUND: u16 = 60000;
 
+// Every contribution has eight bytes, and every fill six.
+const CONTRIBUTION_LENGTH: usize = 8;
+
+const FILL_LENGTH: usize = 6;
+
 // Behind the kind byte a contribution and a fill have the same two fields.
 struct Head {
     sender: u8,
@@ -51,7 +56,7 @@ fn read_contribution<V: ValueKind>(
 ) -> Result<Contribution<V>, FrameFault>
     ensures { λ r. ⌜ r ≡ answered (contribution-layout (V·ValueKind .kind) (fleet .machines) (now (bytes .entry))) ⌝ }
 {
-    if bytes.len() != 8 {
+    if bytes.len() != CONTRIBUTION_LENGTH {
         return Err(FrameFault::Length);
     }
     let Head { sender, ballot } = read_head::<V>(fleet, bytes)?;
@@ -74,7 +79,7 @@ fn read_contribution<V: ValueKind>(
 fn read_fill<V: ValueKind>(fleet: FleetSize, bytes: &[u8]) -> Result<Fill<V>, FrameFault>
     ensures { λ r. ⌜ r ≡ answered (fill-layout (V·ValueKind .kind) (fleet .machines) (now (bytes .entry))) ⌝ }
 {
-    if bytes.len() != 6 {
+    if bytes.len() != FILL_LENGTH {
         return Err(FrameFault::Length);
     }
     let Head { sender, ballot } = read_head::<V>(fleet, bytes)?;
