@@ -4,6 +4,7 @@ pub mod Clocked
 pub mod Covered
 pub mod Framed
 pub mod Paired
+pub mod Refused
 pub mod Tables
 pub mod Voted
 pub mod Words

@@ -6,7 +6,7 @@ use mathlib.Core.Bool.{Bool, true, false, cond, _&&_}
 use mathlib.Core.List.{List, [], _∷_, _++_}
 use mathlib.Core.Path.{_≡_}
 use Rattle.frames.specs.declared.fault.FrameFault.{FrameFault}
-use Rattle.frames.specs.declared.fault.FrameFault.the-variants.{Length, Field as Broken}
+use Rattle.frames.specs.declared.fault.FrameFault.the-variants.{Kind as Unknown, Length, Field as Broken}
 use Rattle.std.specs.declared.option.Option.{Option}
 use Rattle.std.specs.declared.option.Option.the-variants.{Some, None}
 use Rattle.std.specs.declared.result.Result.{Result}
@@ -84,3 +84,9 @@ unless-bad None f = Ok f
 -- the first refusal that fits, else the record
 abbrev pub answered : {F : Type 0} → Layout F → Result F FrameFault
 answered layout = cond (layout .whole) (unless-bad (first-bad (layout .fields)) (layout .shown)) (Err Length)
+
+-- why a layout refuses: the length is wrong, or it is right and a field breaks, none in front of it
+abbrev pub Refuses : {F : Type 0} → Layout F → FrameFault → Type 0
+Refuses layout Unknown = ⊥
+Refuses layout Length = layout .whole ≡ false
+Refuses layout (Broken at) = (layout .whole ≡ true) × Breaks-first (layout .fields) at

@@ -4,9 +4,10 @@ use lib.Dec.{eqb}
 use lib.ListN.{length}
 use mathlib.Core.Bool.{true, cond}
 use mathlib.Core.List.{List}
+use mathlib.Core.Logic.{_⊎_}
 use mathlib.Core.Path.{_≡_}
 use Rattle.frames.specs.Changes.{change-layout, change-spelling, ValidChange}
-use Rattle.frames.specs.Fields.{Back-to-back, byte, answered}
+use Rattle.frames.specs.Fields.{Back-to-back, Refuses, byte, answered}
 use Rattle.frames.specs.Votes.{contribution-layout, contribution-spelling, ValidContribution, fill-layout, fill-spelling, ValidFill}
 use Rattle.frames.specs.declared.fault.FrameFault.{FrameFault}
 use Rattle.frames.specs.declared.fault.FrameFault.the-variants.{Kind as UnknownKind}
@@ -51,6 +52,20 @@ Valid K n (PlaceContribution c) = ValidContribution mark-kind n c
 Valid K n (PlaceFill f) = ValidFill mark-kind n f
 Valid K n (QuestionContribution c) = ValidContribution K n c
 Valid K n (QuestionFill f) = ValidFill K n f
+
+abbrev pub Of-no-kind : {Q : Type 0} → Kind Q → ℕ → Type 0
+Of-no-kind K kind =
+    (kind ≡ 1 → ⊥) × (kind ≡ 2 → ⊥) × (kind ≡ 3 → ⊥) × (kind ≡ K .contribution → ⊥) × (kind ≡ K .fill → ⊥)
+
+-- the first refusal that fits: the first byte is no kind, or the layout of its kind refuses
+abbrev pub First-refusal : {Q : Type 0} → Kind Q → ℕ → List ℕ → FrameFault → Type 0
+First-refusal K n bytes fault =
+    ((fault ≡ UnknownKind) × Of-no-kind K (byte bytes 0))
+    ⊎ (((byte bytes 0 ≡ 1) × Refuses (change-layout n bytes) fault)
+    ⊎ (((byte bytes 0 ≡ 2) × Refuses (contribution-layout mark-kind n bytes) fault)
+    ⊎ (((byte bytes 0 ≡ 3) × Refuses (fill-layout mark-kind n bytes) fault)
+    ⊎ (((byte bytes 0 ≡ K .contribution) × Refuses (contribution-layout K n bytes) fault)
+    ⊎ ((byte bytes 0 ≡ K .fill) × Refuses (fill-layout K n bytes) fault)))))
 
 -- in bytes of the right length every byte behind the kind, and behind m in a change, belongs to exactly one field
 abbrev pub Change-covered : Type 0

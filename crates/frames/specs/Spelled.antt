@@ -3,7 +3,7 @@ use Prim.Native.Nat.{ℕ, _≤_, _<_}
 use lib.ListN.{getD, take}
 use mathlib.Core.List.{List}
 use mathlib.Core.Path.{_≡_}
-use Rattle.frames.specs.Frames.{reading, spelling, Valid}
+use Rattle.frames.specs.Frames.{First-refusal, reading, spelling, Valid}
 use Rattle.frames.specs.declared.fault.BufferTooShort.{BufferTooShort}
 use Rattle.frames.specs.declared.fault.FrameFault.{FrameFault}
 use Rattle.frames.specs.declared.frame.Frame.{Frame}
@@ -19,6 +19,11 @@ Bytes bytes = (i : ℕ) → getD bytes i 0 < 256
 abbrev pub Spelled : {Q : Type 0} → Kind Q → ℕ → List ℕ → Result (Frame Q) FrameFault → Type 0
 Spelled K n bytes (Ok f) = Valid K n f × (bytes ≡ spelling K f)
 Spelled {Q} K n bytes (Err fault) = (f : Frame Q) → Valid K n f → bytes ≡ spelling K f → ⊥
+
+-- a refused answer is the first refusal that fits
+abbrev pub Refused-first : {Q : Type 0} → Kind Q → ℕ → List ℕ → Result (Frame Q) FrameFault → Type 0
+Refused-first K n bytes (Ok f) = Unit {0}
+Refused-first K n bytes (Err fault) = First-refusal K n bytes fault
 
 -- what is written for a valid frame is read back as that frame
 abbrev pub Reads-back : {Q : Type 0} → Kind Q → Type 0

@@ -43,7 +43,8 @@ pub struct Fill<V> {
     pub value: V,
 }
 
-// Every frame. A place's value is a mark; Q is the kind of a question's value.
+// Every frame. A ballot is a place, a numbered position in the shared book whose value is a mark, or a question, a numbered
+// matter such as an oil temperature whose value is of the kind Q.
 #[derive(Clone, Copy)]
 pub enum Frame<Q> {
     Change(Change),

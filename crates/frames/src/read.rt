@@ -3,7 +3,7 @@ ghost use Prim.Native.Nat.{_≤_};
 ghost use Rattle.frames.specs.Fields.{answered, first-bad, unless-bad};
 ghost use Rattle.frames.specs.Frames.{question-reading, reading};
 ghost use Rattle.frames.specs.Heads.{head-in};
-ghost use Rattle.frames.specs.Spelled.{Spelled};
+ghost use Rattle.frames.specs.Spelled.{Refused-first, Spelled};
 ghost use Rattle.frames.specs.Votes.{contribution-layout, fill-layout, with-head};
 ghost use lib.ListN.{length};
 ghost use mathlib.Core.List.{[]};
@@ -132,6 +132,7 @@ fn read_by_kind<Q: QuestionKind>(fleet: FleetSize, bytes: &[u8]) -> Result<Frame
 pub fn read<Q: QuestionKind>(fleet: FleetSize, bytes: &[u8]) -> Result<Frame<Q>, FrameFault>
     ensures answer { λ r. ⌜ r ≡ reading (Q·ValueKind .kind) (fleet .machines) (now (bytes .entry)) ⌝ }
     ensures spelled { λ r. ⌜ Spelled (Q·ValueKind .kind) (fleet .machines) (now (bytes .entry)) r ⌝ }
+    ensures refused { λ r. ⌜ Refused-first (Q·ValueKind .kind) (fleet .machines) (now (bytes .entry)) r ⌝ }
 {
     read_by_kind(fleet, bytes)
 }

@@ -1,4 +1,4 @@
-// The interface of a value kind: what a ballot can be about. Everything above is generic over it, and knows of a kind
+// The interface of a value kind: what a ballot, a matter on which a fleet settles one value, can be about. Everything above is generic over it, and knows of a kind
 // only its meaning and the laws of that meaning.
 ghost use Rattle.std.specs.declared.option.Option.the-variants.{None, Some};
 ghost use Rattle.values.specs.Kinds.{Kind, Lawful};

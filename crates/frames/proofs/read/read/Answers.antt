@@ -1,4 +1,5 @@
 use Rattle.frames.proofs.Framed.{spelled}
+use Rattle.frames.proofs.Refused.{refused-first}
 use Rattle.frames.proofs.read.read.Needs as need
 
 pub returns : need.returns
@@ -12,4 +13,5 @@ returns g c =
       spelled =
           spelled K (g .Q·ValueKind·met .lawful) (slot .1) (slot .2) (fleet .machines) (fleet .some) (fleet .few)
           (c .args .bytes .now) (λ i. c .typed .bytes i .fits) (r .result) (r .ensures);
+      refused = refused-first K (fleet .machines) (c .args .bytes .now) (r .result) (r .ensures);
     }
