@@ -1,4 +1,6 @@
 // A radio capture as text: lines of hexadecimal to frames, and frames to words.
+#![tactic(auto)]
+
 pub mod first_line;
 pub mod hex;
 pub mod outcome;

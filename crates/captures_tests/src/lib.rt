@@ -1,5 +1,7 @@
 // Examples of captures: first lines that say a size of a fleet, and ones that do not. What the lines after the first say is
 // checked on tables, by the programs inspect and frame_vectors.
+#![tactic(auto)]
+
 #[cfg(test)]
 mod first_lines {
     use captures::first_line::fleet_size;

@@ -1,4 +1,6 @@
 // drums: plays calls on a journal, a chain of two drums, and prints what they answer.
+#![tactic(auto)]
+
 use anyhow::anyhow;
 use captures::hex::{HexFault, read_hex};
 use journals::chain::Chain;

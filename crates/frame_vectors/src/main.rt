@@ -1,5 +1,7 @@
 // Checks tables of frames, worked out by hand, in fleets of 1 to 4 machines, where ranges and pairs depend on the size.
 // A line of a table is the bytes in hexadecimal, what there is to say about them, and what the line tests, with tabs between.
+#![tactic(auto)]
+
 use anyhow::anyhow;
 use captures::report::explain;
 use std::fs;

@@ -1,4 +1,6 @@
 // The radio frames: what machines say to each other. A frame is read from bytes and written into bytes, and has one spelling.
+#![tactic(auto)]
+
 mod change;
 pub mod fault;
 pub mod frame;

@@ -1,4 +1,6 @@
 // inspect: says in words what the frames of a radio capture say, or why they are none.
+#![tactic(auto)]
+
 use anyhow::anyhow;
 use captures::first_line::fleet_size;
 use captures::outcome::Tally;
