@@ -9,6 +9,7 @@ use journals::fault::JournalFault;
 use journals::journal::{Journal, ROW_BYTES};
 use std::env;
 use std::io::{BufRead, BufReader};
+use std::process::ExitCode;
 use std::str::SplitWhitespace;
 
 // A target of a read can have so many bytes.
@@ -161,8 +162,7 @@ fn play<J: Journal>(rt: &HostRuntime, journal: &mut J) -> anyhow::Result<()> {
             Err(error) => Err(error.into()),
         };
         if let Err(error) = played {
-            let text = format!(in rt.alloc(); "line {number}: {error}")?;
-            return Err(text.into());
+            return Err(anyhow!("line {number}: {error}"));
         }
     }
     Ok(())
@@ -197,12 +197,12 @@ fn run(rt: &HostRuntime) -> anyhow::Result<()> {
 }
 
 // An error is said in one line, and ends the program with status 1.
-fn main(rt: HostRuntime) -> anyhow::Result<()> {
+fn main(rt: HostRuntime) -> ExitCode {
     match run(&rt) {
-        Ok(()) => Ok(()),
+        Ok(()) => ExitCode::SUCCESS,
         Err(error) => {
             let _ = eprintln!(rt; "drums: {error}");
-            Err(error)
+            ExitCode::FAILURE
         }
     }
 }

@@ -7,6 +7,7 @@ use captures::outcome::Tally;
 use captures::report::explain;
 use std::env;
 use std::io::{BufRead, BufReader};
+use std::process::ExitCode;
 use values::fleet_size::FleetSize;
 
 // A line without the newline at its end.
@@ -86,12 +87,12 @@ fn run(rt: &HostRuntime) -> anyhow::Result<()> {
 }
 
 // An error is said in one line, and ends the program with status 1.
-fn main(rt: HostRuntime) -> anyhow::Result<()> {
+fn main(rt: HostRuntime) -> ExitCode {
     match run(&rt) {
-        Ok(()) => Ok(()),
+        Ok(()) => ExitCode::SUCCESS,
         Err(error) => {
             let _ = eprintln!(rt; "inspect: {error}");
-            Err(error)
+            ExitCode::FAILURE
         }
     }
 }

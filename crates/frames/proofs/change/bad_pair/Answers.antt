@@ -21,7 +21,7 @@ pub returns-in-None : goal.returns-in-None
 returns-in-None c =
     let b = c.args.bytes.now in
     let e = c.in-None.ensures in
-    let f = c.bad-count.ensures in
+    let f = c.bad_count.ensures in
     (simp c.parts.ensures.counts at f)
     ∙ sym
     (first_bad_behind

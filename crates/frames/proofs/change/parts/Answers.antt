@@ -9,8 +9,8 @@ returns c =
     let r = take_rest b 8 in
     let l = length-drop 8 b in
     record {
-      machines = simp take_rest at c.split-at.ensures.front;
-      counts = simp take_rest at c.split-at.ensures.back;
+      machines = simp take_rest at c.split_at.ensures.front;
+      counts = simp take_rest at c.split_at.ensures.back;
       both = grind (arith, nat_tests);
-      few = c.split-at.ensures.front-len;
+      few = c.split_at.ensures.front_len;
     }

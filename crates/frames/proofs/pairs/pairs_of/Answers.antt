@@ -22,7 +22,7 @@ loop-count-preserved c =
 
 pub returns : goal.returns
 returns c =
-    let all = take_all c.loop-count.count_index c.args.clock.now (omega arith) in
+    let all = take_all c.loop-count.count-index c.args.clock.now (omega arith) in
     record {
       machines = simp all at c.loop-count.invariant.4;
       counts = simp all at c.loop-count.invariant.5;

@@ -7,11 +7,11 @@ returns g c =
     let K = g.Q.ValueKind.kind in
     let slot = g.met.Q.QuestionKind.slot in
     let fleet = c.args.fleet in
-    let r = c.read-by-kind in
+    let r = c.read_by_kind in
     record {
       answer = r.ensures;
       spelled =
           spelled K g.met.Q.ValueKind.lawful slot.1 slot.2 fleet.machines fleet.some fleet.few
-          c.args.bytes.now (λ i. (c.type-inv.bytes i).fits) r.result r.ensures;
+          c.args.bytes.now (λ i. (c.type_inv.bytes i).fits) r.result r.ensures;
       refused = refused_first K fleet.machines c.args.bytes.now r.result r.ensures;
     }

@@ -6,4 +6,4 @@ pub returns : goal.returns
 returns c =
     let n = length c.args.bytes.now in
     let e : c.args.at + n - c.args.at ≡ n = omega arith in
-    simp (e, c.copy-from-slice.ensures.after, drop-drop)
+    simp (e, c.copy_from_slice.ensures.after, drop-drop)

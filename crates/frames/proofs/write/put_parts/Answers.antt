@@ -16,7 +16,7 @@ returns c =
     let b = c.args.buffer.now in
     let t = room h ms cs b c.if-buffer-end.false in
     let e =
-    three_parts h ms cs b c.put-at.new.buffer c.put-at-2.new.buffer c.put-at-3.new.buffer
-    c.put-at.ensures c.put-at-2.ensures c.put-at-3.ensures
+    three_parts h ms cs b c.put_at.new.buffer c.put_at-2.new.buffer c.put_at-3.new.buffer
+    c.put_at.ensures c.put_at-2.ensures c.put_at-3.ensures
     in
     record { answer = ap Ok (sym (length_parts h ms cs)) ∙ sym (cond-true _ _ _ t); after = e ∙ sym (cond-true _ _ _ t) }

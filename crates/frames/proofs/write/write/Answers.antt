@@ -5,7 +5,7 @@ pub returns : goal.returns
 returns g c =
     let K = g.Q.ValueKind.kind in
     let slot = g.met.Q.QuestionKind.slot in
-    let r = c.write-by-kind in
+    let r = c.write_by_kind in
     record {
       answer = r.ensures.answer;
       after = r.ensures.after;

@@ -5,5 +5,5 @@ use Rattle.journals.proofs.drum.DrumJournal.read.Goals as goal
 pub returns : goal.returns
 returns c =
     let drum = c.args.self.now in
-    let done = copied drum.table drum.sized c.args.k c.args.target.now drum.few c.in-ok-check-read.ensures in
-    record { answer = done.0; after = c.copy-from-slice.ensures.after ∙ c.row.ensures ∙ done.1 }
+    let done = copied drum.table drum.sized c.args.k c.args.target.now drum.few c.in_ok-check_read.ensures in
+    record { answer = done.0; after = c.copy_from_slice.ensures.after ∙ c.row.ensures ∙ done.1 }
