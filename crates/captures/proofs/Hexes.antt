@@ -1,5 +1,5 @@
 -- Reading hexadecimal, one step at a time.
-use Rattle.std.proofs.Common.{◌≡◌, ℕ, ◌+◌, ◌-◌, ◌*◌, ◌<◌, ◌≤◌, Bool, true, false, cond, ◌&&◌, List, [], ◌∷◌, ◌++◌, length, get_or, drop, Some, None, Ok, Err, Option, Result, sym, refl, ap, ◌∙◌, arith}
+use Rattle.std.proofs.Common.{◌≡◌, ℕ, ◌+◌, ◌*◌, ◌<◌, ◌≤◌, Bool, true, false, cond, ◌&&◌, List, [], ◌∷◌, ◌++◌, length, get_or, drop, Some, None, Ok, Err, Result, sym, refl, ap, ◌∙◌, arith}
 use Rattle.captures.specs.Hex.{blank, digit, nibble, front_byte, with_byte, hex_from, hex_line}
 use Rattle.std.proofs.lemmas.List.{append_assoc, append-nil, get_or-drop, length-drop, drop-drop, drop_more, drop_all}
 

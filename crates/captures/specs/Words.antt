@@ -5,13 +5,10 @@ use Rattle.frames.specs.Faults.{fault_number}
 use Rattle.frames.specs.declared.fault.FrameFault.{FrameFault}
 use Rattle.frames.specs.declared.fault.FrameFault.TheVariants.{Kind, Length, Field}
 use Rattle.frames.specs.declared.frame.Change.{Change as ChangeRecord}
-use Rattle.frames.specs.declared.frame.Contribution.{Contribution}
-use Rattle.frames.specs.declared.frame.Fill.{Fill}
 use Rattle.frames.specs.declared.frame.Frame.{Frame}
 use Rattle.frames.specs.declared.frame.Frame.TheVariants.{Change, PlaceContribution, PlaceFill, QuestionContribution, QuestionFill}
 use Rattle.std.specs.Fmt.{signed_decimal}
 use Rattle.values.specs.declared.level.Level.{Level}
-use Rattle.values.specs.declared.mark.Mark.{Mark}
 
 -- two numbers with a point between: an author and a number, or a machine and a count
 abbrev pub dotted : ℕ → ℕ → List ℕ

@@ -1,11 +1,11 @@
 -- Changes: written and read back, and read from no other bytes.
-use Rattle.std.proofs.Common.{◌≡◌, ℕ, suc, ◌+◌, ◌-◌, ◌*◌, ◌<◌, ◌≤◌, Bool, true, cond, ◌&&◌, eqb, leb, ◌⊎◌, List, [], ◌∷◌, ◌++◌, length, get_or, take, drop, None, Ok, sym, refl, ap, ◌∙◌, subst, inl, inr, arith}
+use Rattle.std.proofs.Common.{◌≡◌, ℕ, ◌+◌, ◌-◌, ◌*◌, ◌<◌, ◌≤◌, true, ◌⊎◌, List, ◌++◌, length, get_or, drop, None, Ok, sym, refl, ap, ◌∙◌, subst, inl, inr, arith}
 use Rattle.frames.proofs.Paired.{same_count, counts_fewer, machines_hold, counts_hold, clock_back, length_clock, of_clock, pairs_back, fields_rise, MayHave, may_have_none, fields_range}
 use Rattle.frames.proofs.Tables.{first_bad_behind}
 use Rattle.frames.proofs.Words.{word_back, high_word, low_word, signed_back, signed_fits, high_signed, low_signed, within_true, within_parts, all_hold, hold_parts, answered_ok, ok_answered, front_4, next_2}
 use Rattle.frames.specs.Changes.{pairs, machines_in, counts_in, fixed_fields, pair_fields, change_in, change_whole, change_layout, change_spelling, ValidChange}
 use Rattle.frames.specs.Clocks.{clock_of, machines_of, counts_of, machine_fields, count_fields}
-use Rattle.frames.specs.Fields.{Field, AllHold, byte, word, high, low, within, first_bad, answered}
+use Rattle.frames.specs.Fields.{AllHold, byte, word, first_bad, answered}
 use Rattle.frames.specs.Spelled.{Bytes}
 use Rattle.frames.specs.declared.frame.Change.{Change}
 use Rattle.std.proofs.lemmas.List.{take_at, drop_at, length-append, length-take-le, length-drop, take-append-drop}

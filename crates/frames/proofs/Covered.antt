@@ -1,11 +1,11 @@
 -- The fields of every layout lie back to back.
-use Rattle.std.proofs.Common.{◌≡◌, ℕ, suc, ◌+◌, ◌*◌, ◌≤◌, true, eqb, leb, List, [], ◌∷◌, ◌++◌, length, drop, sym, refl, ap, ◌∙◌, subst, arith}
+use Rattle.std.proofs.Common.{◌≡◌, ℕ, suc, ◌+◌, ◌*◌, eqb, leb, List, [], ◌∷◌, ◌++◌, length, drop, sym, refl, subst, arith}
 use Rattle.frames.specs.Changes.{pairs, machines_in, counts_in}
 use Rattle.frames.specs.Clocks.{machine_fields, count_fields}
 use Rattle.frames.specs.Fields.{Field, BackToBack, byte}
 use Rattle.frames.specs.Frames.{ChangeCovered, VotesCovered}
 use Rattle.std.proofs.lemmas.List.{length-take-le, length-drop}
-use Rattle.std.proofs.lemmas.Bool.{and_parts, leb-true, eqb-true}
+use Rattle.std.proofs.lemmas.Bool.{and_parts, eqb-true}
 use Rattle.values.specs.Kinds.{Kind}
 
 counts_cover : (at end : ℕ) (cs : List ℕ) → end ≡ at + length cs → BackToBack at (count_fields at cs) end

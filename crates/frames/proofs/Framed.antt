@@ -2,7 +2,6 @@
 use Rattle.std.proofs.Common.{◌≡◌, ℕ, ◌≤◌, Bool, true, false, cond, eqb, leb, ◌⊎◌, List, ◌++◌, length, take, drop, Ok, Err, Result, sym, refl, ap, ◌∙◌, subst, inl, inr, arith}
 use Rattle.frames.proofs.Changed.{change_back, change_only}
 use Rattle.frames.proofs.Voted.{contribution_back, contribution_only, fill_back, fill_only}
-use Rattle.frames.specs.Changes.{change_layout}
 use Rattle.frames.specs.Fields.{byte, answered}
 use Rattle.frames.specs.Frames.{framed, question_reading, reading, spelling, Valid}
 use Rattle.frames.specs.Spelled.{Bytes, Spelled, FoundBack, ReadsBack, SameFromSameBytes, SameFromSameFrame}
@@ -10,7 +9,6 @@ use Rattle.frames.specs.Writing.{write_answer, written}
 use Rattle.frames.specs.Votes.{contribution_layout, contribution_spelling, fill_layout, fill_spelling}
 use Rattle.frames.specs.declared.fault.BufferTooShort.{BufferTooShort}
 use Rattle.frames.specs.declared.fault.FrameFault.{FrameFault}
-use Rattle.frames.specs.declared.fault.FrameFault.TheVariants.{Kind as UnknownKind}
 use Rattle.frames.specs.declared.frame.Frame.{Frame}
 use Rattle.frames.specs.declared.frame.Frame.TheVariants.{Change, PlaceContribution, PlaceFill, QuestionContribution, QuestionFill}
 use Rattle.std.proofs.lemmas.List.{take_at}

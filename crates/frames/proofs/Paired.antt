@@ -1,10 +1,10 @@
 -- A clock and its pairs say the same: from the clock to its pairs and back, and from pairs that rise to their clock and back.
-use Rattle.std.proofs.Common.{◌≡◌, ℕ, zero, suc, ◌+◌, ◌-◌, ◌<◌, ◌≤◌, Bool, true, false, cond, not, ◌&&◌, eqb, ltb, leb, ◌⊎◌, List, [], ◌∷◌, ◌++◌, length, get_or, Some, None, sym, refl, ap, ◌∙◌, subst, inl, inr, ⊎_elim, arith}
+use Rattle.std.proofs.Common.{◌≡◌, ℕ, zero, suc, ◌+◌, ◌<◌, ◌≤◌, Bool, true, false, cond, not, ◌&&◌, eqb, ltb, leb, ◌⊎◌, List, [], ◌∷◌, length, get_or, None, sym, refl, ap, subst, inl, inr, arith}
 use Rattle.frames.proofs.Clocked.{clock_named, clock_other}
 use Rattle.frames.proofs.Words.{within_true}
 use Rattle.frames.specs.Clocks.{clock_of, machines_of, counts_of, machine_fits, machine_fields, count_fields}
-use Rattle.frames.specs.Fields.{Field, AllHold, first_bad, within}
-use Rattle.std.proofs.lemmas.Bool.{cases_Bool, cases_eq, cond-true, cond-false, eqb-true, eqb-false, eq-eqb, ne_eqb, lt-ltb, le-leb, ltb-true, leb-true, and_from, and_parts, not_from_false, not-true}
+use Rattle.frames.specs.Fields.{AllHold, first_bad}
+use Rattle.std.proofs.lemmas.Bool.{cases_Bool, cases_eq, cond-true, eqb-true, eqb-false, eq-eqb, ne_eqb, lt-ltb, le-leb, ltb-true, leb-true, and_from, and_parts, not_from_false, not-true}
 
 -- as many machine numbers as counts
 pub same_count : (j : ℕ) (clock : List ℕ) → length (machines_of j clock) ≡ length (counts_of clock)

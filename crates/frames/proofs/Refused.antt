@@ -1,11 +1,9 @@
 -- A refused reading is the first refusal that fits.
 use Rattle.std.proofs.Common.{◌≡◌, ℕ, Bool, true, false, cond, eqb, List, Some, None, Ok, Err, Option, Result, sym, refl, inl, inr, arith}
 use Rattle.frames.proofs.Words.{breaks_first}
-use Rattle.frames.specs.Changes.{change_layout}
 use Rattle.frames.specs.Fields.{Layout, Refuses, byte, first_bad, unless_bad, answered}
 use Rattle.frames.specs.Frames.{FirstRefusal, framed, reading}
 use Rattle.frames.specs.Spelled.{RefusedFirst}
-use Rattle.frames.specs.Votes.{contribution_layout, fill_layout}
 use Rattle.frames.specs.declared.fault.FrameFault.{FrameFault}
 use Rattle.frames.specs.declared.fault.FrameFault.TheVariants.{Kind as Unknown, Length, Field as Broken}
 use Rattle.frames.specs.declared.frame.Frame.{Frame}

@@ -1,5 +1,5 @@
 -- Contributions and fills of any value kind: written and read back, and read from no other bytes.
-use Rattle.std.proofs.Common.{◌≡◌, ℕ, ◌+◌, ◌*◌, ◌<◌, ◌≤◌, Bool, true, List, [], ◌∷◌, length, drop, Ok, sym, refl, ap, ◌∙◌, subst, arith}
+use Rattle.std.proofs.Common.{◌≡◌, ℕ, ◌+◌, ◌*◌, ◌≤◌, true, List, [], ◌∷◌, length, drop, Ok, subst, arith}
 use Rattle.frames.proofs.Words.{word_back, high_word, low_word, within_true, within_parts, all_hold, answered_ok, front_4, next_2}
 use Rattle.frames.specs.Fields.{byte, word, high, low, within, answered}
 use Rattle.frames.specs.Spelled.{Bytes}

@@ -1,9 +1,9 @@
 -- Two bytes and the number that they make, and what it says that a table of fields answers Ok.
-use Rattle.std.proofs.Common.{◌≡◌, ℕ, ◌+◌, ◌*◌, ◌<◌, ◌≤◌, Bool, true, false, cond, List, [], ◌∷◌, ◌++◌, length, get_or, drop, ℤ, Some, None, Ok, Err, Option, Result, sym, refl, ap, ◌∙◌, arith, w16, Fits, SFits, to_z, of_z}
+use Rattle.std.proofs.Common.{◌≡◌, ℕ, ◌+◌, ◌*◌, ◌<◌, ◌≤◌, Bool, true, false, cond, List, [], ◌∷◌, ◌++◌, length, drop, ℤ, Some, None, Ok, Err, Option, Result, refl, ap, ◌∙◌, arith, w16, Fits, SFits, to_z, of_z}
 use mir.ValLaws.{to_z-Fits, of_z_fits, to_z-of_z, of_z-to_z}
 use Rattle.frames.specs.Fields.{Field, Layout, AllHold, BreaksFirst, byte, high, low, within, first_bad, unless_bad, answered}
 use Rattle.frames.specs.declared.fault.FrameFault.{FrameFault}
-use Rattle.frames.specs.declared.fault.FrameFault.TheVariants.{Length, Field as Broken}
+use Rattle.frames.specs.declared.fault.FrameFault.TheVariants.{Length}
 use Rattle.std.proofs.lemmas.List.{drop_more}
 use Rattle.std.proofs.lemmas.Bool.{le-leb, and_from, and_parts, leb-true}
 use Rattle.values.specs.Levels.{signed_high, signed_low, signed_of}

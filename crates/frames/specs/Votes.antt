@@ -1,5 +1,5 @@
 -- Contributions and fills, over any value kind: the same text for places and questions.
-use Rattle.std.specs.Prelude.{◌≡◌, ℕ, ◌≤◌, Bool, true, List, [], ◌∷◌, length, ◌==◌}
+use Rattle.std.specs.Prelude.{◌≡◌, ℕ, ◌≤◌, true, List, [], ◌∷◌, length, ◌==◌}
 use Rattle.frames.specs.Fields.{Field, Layout, field, byte, word, high, low, within}
 use Rattle.frames.specs.declared.frame.Contribution.{Contribution}
 use Rattle.frames.specs.declared.frame.Fill.{Fill}

@@ -1,5 +1,5 @@
 -- What is left of the counts gives the answer.
-use Rattle.std.proofs.Common.{◌≡◌, ◌+◌, ◌-◌, drop}
+use Rattle.std.proofs.Common.{◌≡◌, ◌+◌, drop}
 use Rattle.frames.specs.Clocks.{count_fields}
 use Rattle.frames.specs.Fields.{first_bad}
 use Rattle.frames.proofs.change.bad_count.Given as goal

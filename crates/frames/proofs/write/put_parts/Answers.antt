@@ -1,4 +1,4 @@
-use Rattle.std.proofs.Common.{Ok, sym, ap, ◌∙◌, arith}
+use Rattle.std.proofs.Common.{Ok, sym, ap, ◌∙◌}
 use Rattle.frames.proofs.Buffers.{length_parts, three_parts, too_short, room}
 use Rattle.frames.proofs.write.put_parts.Goals as goal
 use Rattle.std.proofs.lemmas.Bool.{cond-true, cond-false}
