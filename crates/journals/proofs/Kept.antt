@@ -1,6 +1,6 @@
 -- A run of appends keeps what was there, and adds what it is handed.
 use Rattle.std.proofs.Common.{◌≡◌, ℕ, zero, suc, ◌+◌, ◌-◌, ◌<◌, true, false, eqb, ◌⊎◌, List, [], ◌∷◌, ◌++◌, length, get_or, take, Ok, Err, Result, sym, refl, ap, ◌∙◌, inl, inr, add-zero, arith}
-use Rattle.journals.specs.Checks.{clash, pass, accepts, copies, readable_also}
+use Rattle.journals.proofs.Checks.{clash, pass, accepts, copies, readable_also}
 use Rattle.journals.specs.Journals.{Meaning, append_after, append_check, answered, is_row, read_after, read_answer, row_bytes, with_row}
 use Rattle.journals.specs.declared.fault.JournalFault.{JournalFault}
 use Rattle.journals.specs.Runs.{FreeRowsFall, NothingLost, ReadBack, SizeStays, after_all, rows_among}

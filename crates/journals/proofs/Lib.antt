@@ -1,1 +1,4 @@
+pub mod Chains
+pub mod Checks
+pub mod Drums
 pub mod Kept

@@ -1,7 +1,5 @@
 pub mod Faults
 pub mod Journals
+pub mod Laws
 pub mod Makes
 pub mod Runs
-pub mod Chains
-pub mod Checks
-pub mod Drums

@@ -2,7 +2,7 @@
 ghost use Rattle.std.specs.Prelude.{◌≡◌, ◌+◌, length, Ok, nat_le};
 ghost use Rattle.journals.specs.Journals.{answered, append_after, append_check, most_rows, with_row};
 ghost use Rattle.journals.specs.Makes.{both, chained, goes_first, side};
-ghost use Rattle.journals.specs.Chains.{chain_sound};
+ghost use Rattle.journals.specs.Laws.{chain_sound};
 
 use crate::fault::JournalFault;
 use crate::journal::{Journal, MOST_ROWS, check_append, check_read};

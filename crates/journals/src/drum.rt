@@ -2,7 +2,7 @@
 ghost use Rattle.std.specs.Prelude.{◌≡◌, ℕ, ◌<◌, ◌≤◌, [], length, slice_index_or};
 ghost use Rattle.journals.specs.Journals.{Row};
 ghost use Rattle.journals.specs.Makes.{drum_meaning, drum_rows, empty};
-ghost use Rattle.journals.specs.Drums.{drum_sound};
+ghost use Rattle.journals.specs.Laws.{drum_sound};
 
 use crate::fault::JournalFault;
 use crate::journal::{Journal, check_append, check_read};

@@ -3,7 +3,7 @@
 ghost use Rattle.std.specs.Prelude.{◌≡◌, ◌≤◌, min};
 ghost use Rattle.journals.specs.Journals.{most_rows};
 ghost use Rattle.journals_tests.specs.Copies.{copies, sevens};
-ghost use Rattle.journals_tests.specs.Equal.{copies_sound};
+ghost use Rattle.journals_tests.specs.Laws.{copies_sound};
 
 use journals::fault::JournalFault;
 use journals::journal::{Journal, MOST_ROWS, ROW_BYTES, check_read, is_row};

@@ -1,4 +1,5 @@
-// Trials that any journal can be put to. They borrow it, so that the test that owns it can hand it back whatever they find.
+// Trials that any journal can be put to. They borrow it, so that the test that owns it can hand it back; one that finds something
+// wrong ends the test.
 use journals::fault::JournalFault;
 use journals::journal::Journal;
 use std::process::Abort;

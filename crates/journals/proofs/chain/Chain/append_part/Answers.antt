@@ -1,4 +1,4 @@
-use Rattle.journals.specs.Chains.{appended_first, appended_second}
+use Rattle.journals.proofs.Chains.{appended_first, appended_second}
 use Rattle.journals.proofs.chain.Chain.append_part.Goals as goal
 
 pub returns-then-goes_first : goal.returns-then-goes_first

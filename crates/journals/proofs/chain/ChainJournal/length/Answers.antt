@@ -1,4 +1,4 @@
-use Rattle.journals.specs.Chains.{chain_length}
+use Rattle.journals.proofs.Chains.{chain_length}
 use Rattle.journals.proofs.chain.ChainJournal.length.Goals as goal
 
 pub returns : goal.returns

@@ -1,4 +1,4 @@
-use Rattle.journals.specs.Chains.{reads_there}
+use Rattle.journals.proofs.Chains.{reads_there}
 use Rattle.journals.proofs.chain.ChainJournal.read.Goals as goal
 use Rattle.journals.specs.declared.chain.Side.TheVariants.{First, Second}
 

@@ -1,4 +1,4 @@
-use Rattle.journals.specs.Drums.{appended, push_kept}
+use Rattle.journals.proofs.Drums.{appended, push_kept}
 use Rattle.journals.proofs.drum.DrumJournal.append.Goals as goal
 
 pub invariant_of-self : goal.invariant_of-self

@@ -1,5 +1,5 @@
 use Rattle.std.proofs.Common.{◌∙◌}
-use Rattle.journals.specs.Drums.{copied}
+use Rattle.journals.proofs.Drums.{copied}
 use Rattle.journals.proofs.drum.DrumJournal.read.Goals as goal
 
 pub returns : goal.returns

@@ -1,5 +1,5 @@
 use Rattle.std.proofs.Common.{sym}
-use Rattle.journals_tests.specs.Equal.{copies_length}
+use Rattle.journals_tests.specs.Laws.{copies_length}
 use Rattle.journals_tests.proofs.copies.CopiesJournal.length.Goals as goal
 
 pub returns : goal.returns

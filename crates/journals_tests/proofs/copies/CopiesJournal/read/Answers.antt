@@ -1,5 +1,5 @@
 use Rattle.std.proofs.Common.{◌∙◌}
-use Rattle.journals_tests.specs.Equal.{copies_read}
+use Rattle.journals_tests.proofs.Equal.{copies_read}
 use Rattle.journals_tests.proofs.copies.CopiesJournal.read.Goals as goal
 
 pub returns : goal.returns

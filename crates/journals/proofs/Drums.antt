@@ -1,29 +1,15 @@
--- A drum's table as a journal: what stands in it is sound, and a row put behind the last is a row appended.
-use Rattle.std.specs.Prelude.{◌≡◌, ℕ, ◌+◌, ◌-◌, ◌<◌, ◌≤◌, ◌⊎◌, List, [], length, take, Ok, ◌≢◌, slice_index, slice_index_or, slice_set, refl}
+-- A drum's table as a journal: a row put behind the last is a row appended.
+use Rattle.std.specs.Prelude.{◌≡◌, ℕ, ◌+◌, ◌-◌, ◌<◌, ◌≤◌, ◌⊎◌, List, [], length, Ok, ◌≢◌, slice_index, slice_index_or, slice_set, refl}
 use Rattle.std.proofs.Common.{inl, inr, sym, subst, ap, ◌∙◌, arith}
-use Rattle.journals.specs.Checks.{pass, accepts, appendable, copies, readable}
-use Rattle.journals.specs.Journals.{Row, Sound, append_after, append_answer, append_check, read_after, read_answer, read_check, with_row}
+use Rattle.journals.proofs.Checks.{pass, accepts, appendable, copies, readable}
+use Rattle.journals.specs.Journals.{Row, append_after, append_answer, append_check, read_after, read_answer, read_check, with_row}
+use Rattle.journals.specs.Laws.{Shaped, drum_length}
 use Rattle.journals.specs.Makes.{drum_meaning, drum_rows, pushed}
 use Rattle.journals.specs.declared.table.Table.{Table}
-use Rattle.std.proofs.lemmas.List.{length-take-le, get_or-take, get_or-set_same, get_or-set_other, length-set, take_more_set}
+use Rattle.std.proofs.lemmas.List.{get_or-take, get_or-set_same, get_or-set_other, length-set, take_more_set}
 use Rattle.std.proofs.lemmas.Bool.{cases_eq}
 
--- the shape of the rows that are used
-abbrev Shaped : Table → Type 0
-Shaped t = (i : ℕ) → i < t.used → Row (slice_index_or t.rows i [])
-
 module _ (t : Table) (sized : length t.rows ≡ drum_rows) where
-  drum_length : t.used ≤ drum_rows → length (take t.used t.rows) ≡ t.used
-  drum_length few = length-take-le t.used t.rows (omega (arith, sized, few))
-
-  pub drum_sound : t.used ≤ drum_rows → Shaped t → Sound (drum_meaning t)
-  drum_sound few shaped = record {
-    bounded = omega (arith, drum_length few, few);
-    shaped = λ i lt.
-        let inside : i < t.used = omega (arith, drum_length few, lt)
-        in subst Row (sym (get_or-take t.used t.rows i [] inside)) (shaped i inside);
-  }
-
   push_shaped : (row : List ℕ) → t.used < drum_rows → Row row → Shaped t → Shaped (pushed t row)
   push_shaped row some good shaped i lt = at (cases_eq i t.used)
     where
@@ -57,7 +43,7 @@ module _ (t : Table) (sized : length t.rows ≡ drum_rows) where
   appended row free few told ok =
       let some : t.used < drum_rows = omega (arith, (appendable free row ok).1, told) in
       let done = accepts (drum_meaning t) row (rw (sym told) ok) in (
-        ap (λ n. Ok (n + 1)) (sym (drum_length few)) ∙ sym done.0,
+        ap (λ n. Ok (n + 1)) (sym (drum_length t sized few)) ∙ sym done.0,
         push_after row some ∙ sym done.1,
       )
 
@@ -68,5 +54,5 @@ module _ (t : Table) (sized : length t.rows ≡ drum_rows) where
   copied k target few ok =
       let there = readable t.used k target ok in
       let inside : k - 1 < t.used = omega (arith, there.1, there.2) in
-      let passes : pass ≡ read_answer (drum_meaning t) k target = rw (drum_length few) ok in
+      let passes : pass ≡ read_answer (drum_meaning t) k target = rw (drum_length t sized few) ok in
       (passes, sym (copies (drum_meaning t) k target passes ∙ get_or-take t.used t.rows (k - 1) [] inside))

@@ -1,13 +1,14 @@
--- A chain of two sound journals is a sound journal, and a call of the one that a row number or a row goes to is a call of the chain.
-use Rattle.std.specs.Prelude.{◌≡◌, ℕ, ◌+◌, ◌-◌, ◌<◌, ◌≤◌, Bool, true, false, not, leb, ◌⊎◌, List, [], ◌∷◌, ◌++◌, length, get_or, Ok, ◌==◌, nat_le, slice_index_or, refl}
+-- A call of the one that a row number or a row goes to is a call of the chain.
+use Rattle.std.specs.Prelude.{◌≡◌, ℕ, ◌+◌, ◌-◌, ◌<◌, ◌≤◌, true, false, not, leb, ◌⊎◌, List, [], ◌∷◌, ◌++◌, length, get_or, Ok, ◌==◌, nat_le, slice_index_or, refl}
 use Rattle.std.proofs.Common.{inl, inr, sym, subst, ap, ◌∙◌, arith}
-use Rattle.journals.specs.Checks.{clash, pass, accepts, appendable, passes_also, readable, same_row}
-use Rattle.journals.specs.Journals.{Meaning, Row, Sound, append_after, append_answer, append_check, answered, most_rows, read_after, read_answer, read_check, with_row}
-use Rattle.journals.specs.Makes.{both, chained, empty, goes_first, joined, side}
+use Rattle.journals.proofs.Checks.{clash, pass, accepts, appendable, passes_also, readable, same_row}
+use Rattle.journals.specs.Journals.{Meaning, append_after, append_answer, append_check, answered, most_rows, read_after, read_answer, read_check, with_row}
+use Rattle.journals.specs.Laws.{Fit, chain_empty, chain_fits}
+use Rattle.journals.specs.Makes.{both, chained, goes_first, joined, side}
 use Rattle.journals.specs.declared.chain.Side.{Side}
 use Rattle.journals.specs.declared.chain.Side.TheVariants.{First, Second}
 use Rattle.std.proofs.lemmas.List.{append_assoc, append-nil, get_or-append-add, get_or_append_left, length-append}
-use Rattle.std.proofs.lemmas.Bool.{and_parts, not-true, cases_Bool, cases_lt, cond-true, cond-false, eqb-true, eqb-false, leb-true, leb-false}
+use Rattle.std.proofs.lemmas.Bool.{and_parts, not-true, cases_Bool, cond-true, cond-false, eqb-true, eqb-false, leb-true, leb-false}
 
 -- what is known of a row that stands in the first, and of one that stands in the second
 at_first : (k len number : ℕ) → First number ≡ side k len → (number ≡ k) × (k ≤ len)
@@ -28,10 +29,6 @@ at_second k len number found = by (cases_Bool (nat_le k len))
         absurd (clash cc)
     by (inr beyond) = let is : Second number ≡ Second (k - len) = found ∙ cond-false _ _ _ beyond in (cc, leb-false k len beyond)
 
--- whether two journals can be one
-abbrev Fit : Meaning → Meaning → Bool
-Fit a b = nat_le (both a b) most_rows
-
 no_rows : (rows : List (List ℕ)) → length rows ≡ 0 → rows ≡ []
 no_rows [] none = refl
 no_rows (row ∷ rows) none = absurd (omega (arith, none))
@@ -41,37 +38,8 @@ same_meaning : (rows rows' : List (List ℕ)) (free free' : ℕ)
 same_meaning rows rows' free free' r f = rw (r, f) refl
 
 module _ (a b : Meaning) where
-  chain_fits : Fit a b ≡ true → chained a b ≡ joined a b
-  chain_fits fits = cond-true _ _ _ fits
-
-  chain_empty : Fit a b ≡ false → chained a b ≡ empty 0
-  chain_empty over = cond-false _ _ _ over
-
-  joined_bounded : both a b ≤ most_rows → length (a.rows ++ b.rows) + (joined a b).free ≤ most_rows
-  joined_bounded few = grind (arith, few, length-append a.rows b.rows)
-
-  joined_shaped : Sound a → Sound b → (i : ℕ) → i < length (a.rows ++ b.rows) → Row (slice_index_or (a.rows ++ b.rows) i [])
-  joined_shaped sa sb i lt = at (cases_lt i (length a.rows))
-    where
-      at : (i < length a.rows) ⊎ (length a.rows ≤ i) → Row (slice_index_or (a.rows ++ b.rows) i [])
-      at (inl inside) = subst Row (sym (get_or_append_left a.rows b.rows [] i inside)) (sa.shaped i inside)
-      at (inr beyond) =
-          let on : length a.rows + (i - length a.rows) ≡ i = omega (arith, beyond) in
-          let there = get_or-append-add a.rows b.rows (i - length a.rows) [] in
-          subst Row (sym there ∙ ap (λ k. get_or (a.rows ++ b.rows) k []) on)
-          (sb.shaped (i - length a.rows) (omega (arith, lt, beyond, length-append a.rows b.rows)))
-
-  pub chain_sound : Sound a → Sound b → Sound (chained a b)
-  chain_sound sa sb = at (cases_Bool (Fit a b))
-    where
-      at : (Fit a b ≡ true) ⊎ (Fit a b ≡ false) → Sound (chained a b)
-      at (inl fits) = subst Sound (sym (chain_fits fits))
-          (record { bounded = joined_bounded (leb-true (both a b) most_rows fits); shaped = joined_shaped sa sb })
-      at (inr over) = subst Sound (sym (chain_empty over))
-          (record { bounded = omega arith; shaped = λ i lt. absurd (omega (arith, lt)) })
-
   pub chain_length : true ≡ Fit a b → length a.rows + length b.rows ≡ length (chained a b).rows
-  chain_length fits = sym (ap (λ (m : Meaning). length m.rows) (chain_fits (sym fits)) ∙ length-append a.rows b.rows)
+  chain_length fits = sym (ap (λ (m : Meaning). length m.rows) (chain_fits a b (sym fits)) ∙ length-append a.rows b.rows)
 
   -- a chain that has a free row is its two journals as one
   roomy : 0 < (chained a b).free → Fit a b ≡ true
@@ -79,7 +47,7 @@ module _ (a b : Meaning) where
     where
       at : (Fit a b ≡ true) ⊎ (Fit a b ≡ false) → Fit a b ≡ true
       at (inl fits) = fits
-      at (inr over) = absurd (omega (arith, some, ap (λ (m : Meaning). m.free) (chain_empty over)))
+      at (inr over) = absurd (omega (arith, some, ap (λ (m : Meaning). m.free) (chain_empty a b over)))
 
   -- so is one that has a row
   peopled : 0 < length (chained a b).rows → Fit a b ≡ true
@@ -87,7 +55,7 @@ module _ (a b : Meaning) where
     where
       at : (Fit a b ≡ true) ⊎ (Fit a b ≡ false) → Fit a b ≡ true
       at (inl fits) = fits
-      at (inr over) = absurd (omega (arith, some, ap (λ (m : Meaning). length m.rows) (chain_empty over)))
+      at (inr over) = absurd (omega (arith, some, ap (λ (m : Meaning). length m.rows) (chain_empty a b over)))
 
   -- what is known where a row goes to the first, and where it goes to the second
   first_open : true ≡ goes_first a b → (length b.rows ≡ 0) × (0 < a.free)
@@ -127,7 +95,7 @@ module _ (a b : Meaning) where
       let part = accepts a row (passes_also (chained a b).free a.free row ok (first_open first).1) in
       let longer : length a.rows + 1 ≡ length (chained a b).rows + 1 = omega (arith, chain_length (sym fits), (first_open first).0) in (
         part.0 ∙ ap (λ n. Ok n) longer,
-        ap (λ m. chained m b) part.1 ∙ first_after row fits first ∙ ap (λ m. with_row m row) (sym (chain_fits fits)),
+        ap (λ m. chained m b) part.1 ∙ first_after row fits first ∙ ap (λ m. with_row m row) (sym (chain_fits a b fits)),
       )
 
   pub appended_second : (row : List ℕ) → pass ≡ append_check (chained a b).free row → false ≡ goes_first a b
@@ -136,11 +104,11 @@ module _ (a b : Meaning) where
   appended_second row ok second =
       let some = (appendable (chained a b).free row ok).1 in
       let fits = roomy some in
-      let room = second_open second (subst (λ (m : Meaning). 0 < m.free) (chain_fits fits) some) in
+      let room = second_open second (subst (λ (m : Meaning). 0 < m.free) (chain_fits a b fits) some) in
       let there = passes_also (chained a b).free b.free row ok room.0 in
       let longer : length a.rows + (length b.rows + 1) ≡ length (chained a b).rows + 1 = omega (arith, chain_length (sym fits)) in (
         rw (sym there) (ap (λ n. Ok n) longer),
-        ap (λ m. chained a m) (accepts b row there).1 ∙ second_after row fits room ∙ ap (λ m. with_row m row) (sym (chain_fits fits)),
+        ap (λ m. chained a m) (accepts b row there).1 ∙ second_after row fits room ∙ ap (λ m. with_row m row) (sym (chain_fits a b fits)),
       )
 
   -- a read that passes is one of the joined list
@@ -155,7 +123,7 @@ module _ (a b : Meaning) where
         rw (sym told) ok,
         there.1,
         omega (arith, there.2, told, chain_length (sym fits)),
-        ap (λ (m : Meaning). get_or m.rows (k - 1) []) (chain_fits fits),
+        ap (λ (m : Meaning). get_or m.rows (k - 1) []) (chain_fits a b fits),
       )
 
   -- the journal that a row stands in, and its number there
