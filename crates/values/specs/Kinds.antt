@@ -18,6 +18,12 @@ pub record Kind (V : Type 0) : Type 0 where
   pub reads : ℕ → ℕ → ℕ → Bool
   pub value : ℕ → ℕ → V
 
+-- that these three are the numbers of the kind
+pub record Numbered {V : Type 0} (K : Kind V) (highest contribution fill : ℕ) : Type 0 where
+  pub highest_is : highest ≡ K.highest
+  pub contribution_is : contribution ≡ K.contribution
+  pub fill_is : fill ≡ K.fill
+
 pub record Lawful {V : Type 0} (K : Kind V) : Type 0 where
   -- the highest ballot number is 1 to 400, and the two frame kinds are different bytes
   pub some : 1 ≤ K.highest

@@ -1,19 +1,18 @@
 -- Levels: −400 to 1,200 tenths of a degree, written as a signed number of 16 bits in two's complement, high byte first.
 use Rattle.std.specs.Prelude.{ℕ, ◌+◌, ◌*◌, ◌/◌, ◌%◌, Bool, ◌&&◌, ℤ, pos, negsuc, int_le, int_lt}
-use Rattle.std.specs.Int.{w16}
-use Rattle.std.proofs.Common.{of_z, to_z}
+use Rattle.std.specs.Int.{w16, cast_signed, cast_unsigned}
 use Rattle.values.specs.Kinds.{Kind}
 use Rattle.values.specs.declared.level.Level.{Level}
 
--- the two bytes of a signed number of 16 bits, and back: `of_z w16 z` is z, or z + 65,536 where z is below 0
+-- the two bytes of a signed number of 16 bits, and back: the number as unsigned is z, or z + 65,536 where z is below 0
 abbrev pub signed_high : ℤ → ℕ
-signed_high z = of_z w16 z / 256 % 256
+signed_high z = cast_unsigned w16 z / 256 % 256
 
 abbrev pub signed_low : ℤ → ℕ
-signed_low z = of_z w16 z % 256
+signed_low z = cast_unsigned w16 z % 256
 
 abbrev pub signed_of : ℕ → ℕ → ℤ
-signed_of h l = to_z w16 (h * 256 + l)
+signed_of h l = cast_signed w16 (h * 256 + l)
 
 -- −400 (`negsuc k` is −(k + 1)) to 1,200
 abbrev pub level_exists : Level → Bool

@@ -1,7 +1,7 @@
 // The interface of a value kind: what a ballot, a matter on which a fleet settles one value, can be about. Everything above is generic over it, and knows of a kind
 // only its meaning and the laws of that meaning.
-ghost use Rattle.std.specs.Prelude.{◌≡◌, [], ◌∷◌, if◌then◌else◌, Some, None};
-ghost use Rattle.values.specs.Kinds.{Kind, Lawful};
+ghost use Rattle.std.specs.Prelude.{◌≡◌, ℕ, [], ◌∷◌, if◌then◌else◌, Some, None};
+ghost use Rattle.values.specs.Kinds.{Kind, Lawful, Numbered};
 
 pub trait ValueKind: Copy {
     // The ballots of the kind are numbered from 1 to this.
@@ -14,15 +14,11 @@ pub trait ValueKind: Copy {
 
     ghost kind: { Kind Self };
 
-    // The three constants as generic code reads them: of a constant itself a generic proof knows nothing.
-    fn highest_number() -> u16
-        ensures { result ≡ kind.highest };
+    ghost HIGHEST: { ℕ };
 
-    fn contribution_kind() -> u8
-        ensures { result ≡ kind.contribution };
+    ghost CONTRIBUTION: { ℕ };
 
-    fn fill_kind() -> u8
-        ensures { result ≡ kind.fill };
+    ghost FILL: { ℕ };
 
     // Whether this value comes before another in the order of the kind.
     fn is_before(self, other: Self) -> bool
@@ -35,6 +31,9 @@ pub trait ValueKind: Copy {
     // The value that two bytes read as in a fleet of n machines, or None.
     fn read(n: u8, high: u8, low: u8) -> Option<Self>
         ensures { result ≡ (if kind.reads n high low then Some (kind.value high low) else None) };
+
+    // The three constants are those of the kind.
+    ghost numbered: { Numbered kind HIGHEST CONTRIBUTION FILL };
 
     ghost lawful: { Lawful kind };
 }

@@ -5,7 +5,7 @@ ghost use Rattle.std.proofs.Common.{rules};
 use crate::kind::{QuestionKind, ValueKind};
 
 // A level in tenths of a degree Celsius.
-#[derive(Clone, Copy)]
+#[derive(Clone, Copy, Debug, PartialEq, Eq, PartialOrd, Ord)]
 pub struct Level(pub i16);
 
 impl Level {
@@ -24,22 +24,18 @@ impl ValueKind for Level {
 
     ghost kind = { level_kind };
 
+    ghost HIGHEST = { level_kind.highest };
+
+    ghost CONTRIBUTION = { level_kind.contribution };
+
+    ghost FILL = { level_kind.fill };
+
+    ghost numbered = { Prim.search rules };
+
     ghost lawful = { Prim.search rules };
 
-    fn highest_number() -> u16 {
-        Self::HIGHEST
-    }
-
-    fn contribution_kind() -> u8 {
-        Self::CONTRIBUTION
-    }
-
-    fn fill_kind() -> u8 {
-        Self::FILL
-    }
-
     fn is_before(self, other: Level) -> bool {
-        self.0 < other.0
+        self < other
     }
 
     fn write(self) -> [u8; 2] {

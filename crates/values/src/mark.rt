@@ -5,10 +5,11 @@ ghost use Rattle.std.proofs.Common.{rules};
 use crate::kind::ValueKind;
 
 // The name of a change: its author, a machine number, and its number among the changes of that author.
-#[derive(Clone, Copy)]
+// Marks go by number, then by author: the derived order compares the fields as they stand here.
+#[derive(Clone, Copy, Debug, PartialEq, Eq, PartialOrd, Ord)]
 pub struct Mark {
-    pub author: u8,
     pub number: u8,
+    pub author: u8,
 }
 
 impl Mark {
@@ -26,22 +27,18 @@ impl ValueKind for Mark {
 
     ghost kind = { mark_kind };
 
+    ghost HIGHEST = { mark_kind.highest };
+
+    ghost CONTRIBUTION = { mark_kind.contribution };
+
+    ghost FILL = { mark_kind.fill };
+
+    ghost numbered = { Prim.search rules };
+
     ghost lawful = { Prim.search rules };
 
-    fn highest_number() -> u16 {
-        Self::HIGHEST
-    }
-
-    fn contribution_kind() -> u8 {
-        Self::CONTRIBUTION
-    }
-
-    fn fill_kind() -> u8 {
-        Self::FILL
-    }
-
     fn is_before(self, other: Mark) -> bool {
-        self.number < other.number || (self.number == other.number && self.author < other.author)
+        self < other
     }
 
     fn write(self) -> [u8; 2] {
