@@ -36,7 +36,7 @@ fn read_head<V: ValueKind>(fleet: FleetSize, bytes: &[u8]) -> Result<Head, Frame
         return Err(FrameFault::Field(1));
     }
     let ballot = u16::from_be_bytes([bytes[2], bytes[3]]);
-    if ballot < 1 || V::highest_number() < ballot {
+    if ballot < 1 || V::HIGHEST < ballot {
         return Err(FrameFault::Field(2));
     }
     Ok(Head { sender, ballot })
@@ -92,9 +92,9 @@ fn read_question<Q: QuestionKind>(fleet: FleetSize, bytes: &[u8]) -> Result<Fram
     ensures { result ≡ question_reading Q.ValueKind.kind fleet.machines bytes.now }
 {
     let kind = bytes[0];
-    if kind == Q::contribution_kind() {
+    if kind == Q::CONTRIBUTION {
         Ok(Frame::QuestionContribution(read_contribution(fleet, bytes)?))
-    } else if kind == Q::fill_kind() {
+    } else if kind == Q::FILL {
         Ok(Frame::QuestionFill(read_fill(fleet, bytes)?))
     } else {
         Err(FrameFault::Kind)

@@ -40,7 +40,7 @@ fn contribution_bytes<V: ValueKind>(c: Contribution<V>) -> [u8; 8]
     let round = c.round.to_be_bytes();
     let value = c.value.write();
     [
-        V::contribution_kind(),
+        V::CONTRIBUTION,
         c.sender,
         ballot[0],
         ballot[1],
@@ -57,7 +57,7 @@ fn fill_bytes<V: ValueKind>(f: Fill<V>) -> [u8; 6]
     let ballot = f.ballot.to_be_bytes();
     let value = f.value.write();
     [
-        V::fill_kind(),
+        V::FILL,
         f.sender,
         ballot[0],
         ballot[1],
