@@ -2,6 +2,7 @@ pub mod Buffers
 pub mod Changed
 pub mod Clocked
 pub mod Covered
+pub mod Filled
 pub mod Framed
 pub mod Paired
 pub mod Refused

@@ -1,66 +1,46 @@
--- How the tables of machine numbers and of counts go on, one number at a time.
-use Rattle.std.proofs.Common.{◌≡◌, ℕ, ◌+◌, ◌<◌, ◌≤◌, Bool, true, false, cond, List, [], ◌∷◌, ◌++◌, length, get_or, drop, Some, None, Option, sym, refl, ◌∙◌, arith}
-use Rattle.frames.specs.Clocks.{machine_fits, machine_fields, count_fields}
-use Rattle.frames.specs.Fields.{Field, first_bad, within}
-use Rattle.std.proofs.lemmas.List.{at_drop_more, at_drop_all}
+-- A table of fields behind another.
+use Rattle.std.proofs.Common.{◌≡◌, ℕ, Bool, true, false, cond, List, [], ◌∷◌, ◌++◌, Some, None, Ok, Option, Result, refl, arith}
+use Rattle.std.specs.Option.{option_or}
+use Rattle.std.specs.Result.{result_and}
+use Rattle.frames.specs.Fields.{Field, checked, first_bad, unless_bad}
+use Rattle.frames.specs.declared.fault.FrameFault.{FrameFault}
 
--- what is left of the machine numbers: the next one breaks its rule, keeps it, or there is none
-module _ (n author at previous i : ℕ) (xs : List ℕ) (answer : Option ℕ) (left : first_bad (machine_fields n author at previous (drop i xs)) ≡ answer) where
-  machine_next :
-      i < length xs
-      → cond (machine_fits n author previous (get_or xs i 0)) (first_bad (machine_fields n author (at + 1) (get_or xs i 0) (drop (i + 1) xs))) (Some at)
-      ≡ answer
-  machine_next l = sym (at_drop_more (λ ys. first_bad (machine_fields n author at previous ys)) xs i 0 l) ∙ left
-
-  pub machine_breaks : i < length xs → false ≡ machine_fits n author previous (get_or xs i 0) → Some at ≡ answer
-  machine_breaks l f = let e = sym f in rw e at (machine_next l)
-
-  pub machine_keeps :
-      i < length xs
-      → true ≡ machine_fits n author previous (get_or xs i 0)
-      → first_bad (machine_fields n author (at + 1) (get_or xs i 0) (drop (i + 1) xs)) ≡ answer
-  machine_keeps l f = let e = sym f in rw e at (machine_next l)
-
-  pub machines_end : length xs ≤ i → None ≡ answer
-  machines_end l = sym (at_drop_all (λ ys. first_bad (machine_fields n author at previous ys)) xs i l) ∙ left
-
--- the same of the counts
-module _ (at i : ℕ) (xs : List ℕ) (answer : Option ℕ) (left : first_bad (count_fields at (drop i xs)) ≡ answer) where
-  count_next :
-      i < length xs
-      → cond (within 1 40 (get_or xs i 0)) (first_bad (count_fields (at + 1) (drop (i + 1) xs))) (Some at) ≡ answer
-  count_next l = sym (at_drop_more (λ ys. first_bad (count_fields at ys)) xs i 0 l) ∙ left
-
-  pub count_breaks : i < length xs → false ≡ within 1 40 (get_or xs i 0) → Some at ≡ answer
-  count_breaks l f = let e = sym f in rw e at (count_next l)
-
-  pub count_keeps : i < length xs → true ≡ within 1 40 (get_or xs i 0) → first_bad (count_fields (at + 1) (drop (i + 1) xs)) ≡ answer
-  count_keeps l f = let e = sym f in rw e at (count_next l)
-
-  pub counts_end : length xs ≤ i → None ≡ answer
-  counts_end l = sym (at_drop_all (λ ys. first_bad (count_fields at ys)) xs i l) ∙ left
-
--- a table behind another: the first field that breaks is the first table's, if it has one
-pub first_bad_front : (xs ys : List Field) (at : ℕ) → first_bad xs ≡ Some at → first_bad (xs ++ ys) ≡ Some at
-first_bad_front [] ys at h = absurd (let z : ◌≡◌ {A = ℕ} 0 1 = cc in omega arith)
-first_bad_front (x ∷ xs) ys at h = go x.holds (first_bad_front xs ys at) h
+-- the first field that breaks is the first table's, if it has one
+pub first_bad_append : (xs ys : List Field) → first_bad (xs ++ ys) ≡ option_or (first_bad xs) (first_bad ys)
+first_bad_append [] ys = refl
+first_bad_append (x ∷ xs) ys = go x.holds (first_bad_append xs ys)
   where
     go :
         (b : Bool)
-        → (first_bad xs ≡ Some at → first_bad (xs ++ ys) ≡ Some at)
-        → cond b (first_bad xs) (Some x.at) ≡ Some at
-        → cond b (first_bad (xs ++ ys)) (Some x.at) ≡ Some at
-    go true more e = more e
-    go false more e = e
+        → first_bad (xs ++ ys) ≡ option_or (first_bad xs) (first_bad ys)
+        → cond b (first_bad (xs ++ ys)) (Some x.at) ≡ option_or (cond b (first_bad xs) (Some x.at)) (first_bad ys)
+    go true e = e
+    go false e = refl
 
-pub first_bad_behind : (xs ys : List Field) → first_bad xs ≡ None → first_bad (xs ++ ys) ≡ first_bad ys
-first_bad_behind [] ys h = refl
-first_bad_behind (x ∷ xs) ys h = go x.holds (first_bad_behind xs ys) h
+pub first_bad_behind : (front back : List Field) → first_bad front ≡ None → first_bad (front ++ back) ≡ first_bad back
+first_bad_behind front back h = rw (first_bad_append, h)
+
+-- a table that does not refuse has no field that breaks
+pub none_bad : {F : Type 0} (table : List Field) (f g : F) → Ok g ≡ unless_bad (first_bad table) f → (first_bad table ≡ None) × (g ≡ f)
+none_bad {F} table f g e = go (first_bad table) e
   where
-    go :
-        (b : Bool)
-        → (first_bad xs ≡ None → first_bad (xs ++ ys) ≡ first_bad ys)
-        → cond b (first_bad xs) (Some x.at) ≡ None
-        → cond b (first_bad (xs ++ ys)) (Some x.at) ≡ first_bad ys
-    go true more e = more e
-    go false more e = absurd (let z : ◌≡◌ {A = ℕ} 0 1 = cc in omega arith)
+    go : (o : Option ℕ) → ◌≡◌ {A = Result F FrameFault} (Ok g) (unless_bad o f) → (o ≡ None) × (g ≡ f)
+    go None e = (refl, cc)
+    go (Some at) e = absurd (let z : ◌≡◌ {A = ℕ} 0 1 = cc in omega arith)
+
+pub checked_none : (table : List Field) → Ok tt ≡ checked table → first_bad table ≡ None
+checked_none table e = (none_bad table tt tt e).0
+
+-- two tables are checked one after the other
+pub checked_append :
+    {F : Type 0} (front back : List Field) (f : F)
+    → unless_bad (first_bad (front ++ back)) f ≡ result_and (checked front) (result_and (checked back) (Ok f))
+checked_append {F} front back f = rw first_bad_append (go (first_bad front) (first_bad back))
+  where
+    refused : Option ℕ → Result (Unit {0}) FrameFault
+    refused o = unless_bad o tt
+
+    go : (o p : Option ℕ) → unless_bad (option_or o p) f ≡ result_and (refused o) (result_and (refused p) (Ok f))
+    go None None = refl
+    go None (Some at) = refl
+    go (Some at) p = refl

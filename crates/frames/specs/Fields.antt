@@ -72,6 +72,10 @@ abbrev pub unless_bad : {F : Type 0} → Option ℕ → F → Result F FrameFaul
 unless_bad (Some at) f = Err (Broken at)
 unless_bad None f = Ok f
 
+-- the same where there is no record to show yet
+abbrev pub checked : List Field → Result (Unit {0}) FrameFault
+checked fields = unless_bad (first_bad fields) tt
+
 -- the first refusal that fits, else the record
 abbrev pub answered : {F : Type 0} → Layout F → Result F FrameFault
 answered layout = cond layout.whole (unless_bad (first_bad layout.fields) layout.shown) (Err Length)

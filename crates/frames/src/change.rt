@@ -1,16 +1,14 @@
 // Reading a change.
-ghost use Rattle.std.specs.Prelude.{◌≡◌, ◌+◌, ◌≤◌, true, length};
-ghost use Rattle.frames.specs.Changes.{change_in, change_layout, change_whole, counts_in, fixed_fields, machines_in, pair_fields, pairs};
+ghost use Rattle.std.specs.Prelude.{◌≡◌, ◌+◌, ◌≤◌, [], ◌∷◌, ◌++◌, length};
+ghost use Rattle.frames.specs.Changes.{change_layout};
 ghost use Rattle.frames.specs.Clocks.{clock_of, count_fields, machine_fields, machine_fits};
-ghost use Rattle.frames.specs.Fields.{answered, first_bad, within};
+ghost use Rattle.frames.specs.Fields.{answered, checked, field, first_bad, unless_bad, within};
 
 use crate::fault::FrameFault;
 use crate::frame::{Change, Forerunners};
+use crate::received::{Received, check_field};
 use values::fleet_size::FleetSize;
 use values::mark::Mark;
-
-// How many bytes stand before the pairs.
-const FIXED_LENGTH: usize = 8;
 
 // Every machine but the author can have a pair.
 const MOST_PAIRS: u8 = FleetSize::MOST - 1;
@@ -25,135 +23,106 @@ fn machine_holds(fleet: FleetSize, author: u8, previous: u8, machine: u8) -> boo
 fn count_holds(count: u8) -> bool
     ensures { result ≡ within 1 40 count }
 {
-    1 <= count && count <= Mark::MOST_CHANGES
+    (1..=Mark::MOST_CHANGES).contains(&count)
 }
 
-// The offset of the first machine number that breaks its rule; the first of them stands at offset 8.
-fn bad_machine(fleet: FleetSize, author: u8, machines: &[u8]) -> Option<u8>
+// The three fields before the pairs that have a range.
+fn check_fixed(fleet: FleetSize, author: u8, number: u8, setting: u16) -> Result<(), FrameFault>
+    ensures { result
+        ≡ checked
+        (field 2 1 (within 1 fleet.machines author)
+        ∷ field 3 1 (within 1 40 number)
+        ∷ field 4 2 (within 0 999 setting)
+        ∷ []) }
+{
+    check_field(2, (1..=fleet.machines).contains(&author))?;
+    check_field(3, (1..=Mark::MOST_CHANGES).contains(&number))?;
+    check_field(4, setting <= Change::LAST_SETTING)
+}
+
+// The first of the machine numbers stands at offset 8.
+fn check_machines(fleet: FleetSize, author: u8, machines: &[u8]) -> Result<(), FrameFault>
     requires { length machines.now ≤ 8 }
-    ensures { result ≡ first_bad (machine_fields fleet.machines author 8 0 machines.now) }
+    ensures { result ≡ checked (machine_fields fleet.machines author 8 0 machines.now) }
 {
-    let mut at: u8 = 8;
-    let mut previous: u8 = 0;
-    for machine in machines {
-        if !machine_holds(fleet, author, previous, *machine) {
-            return Some(at);
-        }
+    let mut previous = 0;
+    for (i, machine) in machines.iter().enumerate() {
+        check_field(
+            8 + i as u8,
+            machine_holds(fleet, author, previous, *machine),
+        )?;
         previous = *machine;
-        at += 1;
     }
-    None
+    Ok(())
 }
 
-// The offset of the first count that breaks its range; the first of them stands at `first`.
-fn bad_count(first: u8, counts: &[u8]) -> Option<u8>
+// The first of the counts stands at `first`.
+fn check_counts(first: u8, counts: &[u8]) -> Result<(), FrameFault>
     requires { first + length counts.now ≤ 24 }
-    ensures { result ≡ first_bad (count_fields first counts.now) }
+    ensures { result ≡ checked (count_fields first counts.now) }
 {
-    let mut at = first;
-    for count in counts {
-        if !count_holds(*count) {
-            return Some(at);
+    for (i, count) in counts.iter().enumerate() {
+        check_field(first + i as u8, count_holds(*count))?;
+    }
+    Ok(())
+}
+
+// The clock of these pairs, once their machine numbers and then their counts keep their rules.
+fn forerunners(
+    fleet: FleetSize,
+    author: u8,
+    machines: &[u8],
+    counts: &[u8],
+) -> Result<Forerunners, FrameFault>
+    requires few { length machines.now ≤ 8 }
+    requires same { length machines.now ≡ length counts.now }
+    ensures { result
+        ≡ unless_bad
+        (first_bad (machine_fields fleet.machines author 8 0 machines.now ++ count_fields (8 + length machines.now) counts.now))
+        (record { counts = clock_of 9 1 machines.now counts.now }) }
+{
+    check_machines(fleet, author, machines)?;
+    check_counts(8 + machines.len() as u8, counts)?;
+    let mut clock = [0; 9];
+    for (machine, count) in machines.iter().zip(counts) {
+        clock[usize::from(*machine) - 1] = *count;
+    }
+    Ok(Forerunners { counts: clock })
+}
+
+impl Received<'_> {
+    // A change, whatever the first byte is. Behind its first eight bytes come two more for each pair.
+    pub(crate) fn change(self) -> Result<Change, FrameFault>
+        ensures { result ≡ answered (change_layout self.entry.fleet.machines self.entry.bytes.now) }
+    {
+        let Received { fleet, bytes } = self;
+        let [
+            _,
+            pairs,
+            author,
+            number,
+            setting_high,
+            setting_low,
+            level_high,
+            level_low,
+            ref rest @ ..,
+        ] = *bytes
+        else {
+            return Err(FrameFault::Length);
+        };
+        if MOST_PAIRS < pairs || rest.len() != 2 * usize::from(pairs) {
+            return Err(FrameFault::Length);
         }
-        at += 1;
+        let setting = u16::from_be_bytes([setting_high, setting_low]);
+        check_fixed(fleet, author, number, setting)?;
+        let (machines, counts) = rest.split_at(usize::from(pairs));
+        let forerunners = forerunners(fleet, author, machines, counts)?;
+        Ok(Change {
+            author,
+            number,
+            setting,
+            level: i16::from_be_bytes([level_high, level_low]),
+            forerunners,
+        })
     }
-    None
-}
-
-// The clock that has these pairs.
-fn clock(machines: &[u8], counts: &[u8]) -> [u8; 9]
-    requires { length machines.now ≡ length counts.now }
-    ensures { result ≡ clock_of 9 1 machines.now counts.now }
-{
-    let mut clock = [0u8; 9];
-    let mut next: usize = 0;
-    for j in 0..9usize {
-        if next < machines.len() && machines[next] as usize == j + 1 {
-            clock[j] = counts[next];
-            next += 1;
-        }
-    }
-    clock
-}
-
-// Whether the length is right: behind the fixed bytes come two more for each pair, and there are at most eight pairs.
-fn is_whole(bytes: &[u8]) -> bool
-    ensures { result ≡ change_whole bytes.now }
-{
-    bytes.len() >= FIXED_LENGTH
-        && bytes[1] <= MOST_PAIRS
-        && bytes.len() == FIXED_LENGTH + 2 * (bytes[1] as usize)
-}
-
-// The offset of the first field before the pairs that breaks its range. The level has none.
-fn bad_fixed(fleet: FleetSize, bytes: &[u8]) -> Option<u8>
-    requires { change_whole bytes.now ≡ true }
-    ensures { result ≡ first_bad (fixed_fields fleet.machines bytes.now) }
-{
-    if bytes[2] < 1 || fleet.machines < bytes[2] {
-        return Some(2);
-    }
-    if bytes[3] < 1 || Mark::MOST_CHANGES < bytes[3] {
-        return Some(3);
-    }
-    if Change::LAST_SETTING < u16::from_be_bytes([bytes[4], bytes[5]]) {
-        return Some(4);
-    }
-    None
-}
-
-// The machine numbers and the counts of the pairs.
-fn parts(bytes: &[u8]) -> (&[u8], &[u8])
-    requires { change_whole bytes.now ≡ true }
-    ensures machines { result.0.now ≡ machines_in bytes.now }
-    ensures counts { result.1.now ≡ counts_in bytes.now }
-    ensures both { length result.1.now ≡ length result.0.now }
-    ensures few { length result.0.now ≡ pairs bytes.now }
-{
-    bytes[FIXED_LENGTH..].split_at(bytes[1] as usize)
-}
-
-// The offset of the first machine number or count that breaks its rule.
-fn bad_pair(fleet: FleetSize, bytes: &[u8]) -> Option<u8>
-    requires { change_whole bytes.now ≡ true }
-    ensures { result ≡ first_bad (pair_fields fleet.machines bytes.now) }
-{
-    let (machines, counts) = parts(bytes);
-    match bad_machine(fleet, bytes[2], machines) {
-        Some(at) => Some(at),
-        None => bad_count(8 + bytes[1], counts),
-    }
-}
-
-// The change that the fields show.
-fn shown(bytes: &[u8]) -> Change
-    requires { change_whole bytes.now ≡ true }
-    ensures { result ≡ change_in bytes.now }
-{
-    let (machines, counts) = parts(bytes);
-    Change {
-        author: bytes[2],
-        number: bytes[3],
-        setting: u16::from_be_bytes([bytes[4], bytes[5]]),
-        level: i16::from_be_bytes([bytes[6], bytes[7]]),
-        forerunners: Forerunners {
-            counts: clock(machines, counts),
-        },
-    }
-}
-
-// A change, whatever the first byte is.
-pub(crate) fn read_change(fleet: FleetSize, bytes: &[u8]) -> Result<Change, FrameFault>
-    ensures { result ≡ answered (change_layout fleet.machines bytes.now) }
-{
-    if !is_whole(bytes) {
-        return Err(FrameFault::Length);
-    }
-    if let Some(at) = bad_fixed(fleet, bytes) {
-        return Err(FrameFault::Field(at));
-    }
-    if let Some(at) = bad_pair(fleet, bytes) {
-        return Err(FrameFault::Field(at));
-    }
-    Ok(shown(bytes))
 }

@@ -7,4 +7,5 @@ pub mod frame;
 pub mod laws;
 pub mod pairs;
 pub mod read;
+mod received;
 pub mod write;

@@ -6,9 +6,9 @@ ghost use Rattle.frames.specs.Heads.{head_in};
 ghost use Rattle.frames.specs.Spelled.{RefusedFirst, Spelled};
 ghost use Rattle.frames.specs.Votes.{contribution_layout, fill_layout, with_head};
 
-use crate::change::read_change;
 use crate::fault::FrameFault;
 use crate::frame::{Change, Contribution, Fill, Frame};
+use crate::received::Received;
 use values::fleet_size::FleetSize;
 use values::kind::{QuestionKind, ValueKind};
 use values::mark::Mark;
@@ -110,7 +110,7 @@ fn read_by_kind<Q: QuestionKind>(fleet: FleetSize, bytes: &[u8]) -> Result<Frame
     }
     let kind = bytes[0];
     if kind == Change::KIND {
-        Ok(Frame::Change(read_change(fleet, bytes)?))
+        Ok(Frame::Change((Received { fleet, bytes }).change()?))
     } else if kind == Mark::CONTRIBUTION {
         Ok(Frame::PlaceContribution(read_contribution(fleet, bytes)?))
     } else if kind == Mark::FILL {
