@@ -3,7 +3,6 @@ pub mod Clocks
 pub mod Faults
 pub mod Fields
 pub mod Frames
-pub mod Heads
 pub mod Spelled
 pub mod Votes
 pub mod Worked

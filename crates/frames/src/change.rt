@@ -13,19 +13,6 @@ use values::mark::Mark;
 // Every machine but the author can have a pair.
 const MOST_PAIRS: u8 = FleetSize::MOST - 1;
 
-// Whether a machine number keeps its rule behind the one before it, which is 0 for the first.
-fn machine_holds(fleet: FleetSize, author: u8, previous: u8, machine: u8) -> bool
-    ensures { result ≡ machine_fits fleet.machines author previous machine }
-{
-    previous < machine && machine <= fleet.machines && machine != author
-}
-
-fn count_holds(count: u8) -> bool
-    ensures { result ≡ within 1 40 count }
-{
-    (1..=Mark::MOST_CHANGES).contains(&count)
-}
-
 // The three fields before the pairs that have a range.
 fn check_fixed(fleet: FleetSize, author: u8, number: u8, setting: u16) -> Result<(), FrameFault>
     ensures { result
@@ -40,18 +27,16 @@ fn check_fixed(fleet: FleetSize, author: u8, number: u8, setting: u16) -> Result
     check_field(4, setting <= Change::LAST_SETTING)
 }
 
-// The first of the machine numbers stands at offset 8.
+// Machine numbers rise, and none is the author's. The first of them stands at offset 8.
 fn check_machines(fleet: FleetSize, author: u8, machines: &[u8]) -> Result<(), FrameFault>
     requires { length machines.now ≤ 8 }
     ensures { result ≡ checked (machine_fields fleet.machines author 8 0 machines.now) }
 {
     let mut previous = 0;
-    for (i, machine) in machines.iter().enumerate() {
-        check_field(
-            8 + i as u8,
-            machine_holds(fleet, author, previous, *machine),
-        )?;
-        previous = *machine;
+    for (i, &machine) in machines.iter().enumerate() {
+        let holds = previous < machine && machine <= fleet.machines && machine != author;
+        check_field(8 + i as u8, holds)?;
+        previous = machine;
     }
     Ok(())
 }
@@ -62,7 +47,7 @@ fn check_counts(first: u8, counts: &[u8]) -> Result<(), FrameFault>
     ensures { result ≡ checked (count_fields first counts.now) }
 {
     for (i, count) in counts.iter().enumerate() {
-        check_field(first + i as u8, count_holds(*count))?;
+        check_field(first + i as u8, (1..=Mark::MOST_CHANGES).contains(count))?;
     }
     Ok(())
 }
@@ -84,8 +69,8 @@ fn forerunners(
     check_machines(fleet, author, machines)?;
     check_counts(8 + machines.len() as u8, counts)?;
     let mut clock = [0; 9];
-    for (machine, count) in machines.iter().zip(counts) {
-        clock[usize::from(*machine) - 1] = *count;
+    for (&machine, &count) in machines.iter().zip(counts) {
+        clock[usize::from(machine) - 1] = count;
     }
     Ok(Forerunners { counts: clock })
 }

@@ -1,14 +1,13 @@
 // Reading a frame: bytes to a record, or the first refusal that fits.
-ghost use Rattle.std.specs.Prelude.{◌≡◌, ◌≤◌, [], length};
-ghost use Rattle.frames.specs.Fields.{answered, first_bad, unless_bad};
-ghost use Rattle.frames.specs.Frames.{question_reading, reading};
-ghost use Rattle.frames.specs.Heads.{head_in};
+ghost use Rattle.std.specs.Prelude.{◌≡◌, [], ◌∷◌};
+ghost use Rattle.frames.specs.Fields.{answered, field, first_bad, unless_bad, within, word};
+ghost use Rattle.frames.specs.Frames.{reading};
 ghost use Rattle.frames.specs.Spelled.{RefusedFirst, Spelled};
-ghost use Rattle.frames.specs.Votes.{contribution_layout, fill_layout, with_head};
+ghost use Rattle.frames.specs.Votes.{contribution_layout, fill_layout};
 
 use crate::fault::FrameFault;
 use crate::frame::{Change, Contribution, Fill, Frame};
-use crate::received::Received;
+use crate::received::{Received, check_field};
 use values::fleet_size::FleetSize;
 use values::kind::{QuestionKind, ValueKind};
 use values::mark::Mark;
@@ -16,107 +15,87 @@ use values::mark::Mark;
 // The highest round of a ballot.
 pub const LAST_ROUND: u16 = 60000;
 
-// Every contribution has eight bytes, and every fill six.
-const CONTRIBUTION_LENGTH: usize = 8;
-
-const FILL_LENGTH: usize = 6;
-
-// Behind the kind byte a contribution and a fill have the same two fields.
-struct Head {
-    sender: u8,
-    ballot: u16,
-}
-
-fn read_head<V: ValueKind>(fleet: FleetSize, bytes: &[u8]) -> Result<Head, FrameFault>
-    requires { 4 ≤ length bytes.now }
-    ensures { result ≡ unless_bad (first_bad (with_head V.ValueKind.kind fleet.machines bytes.now [])) (head_in bytes.now) }
-{
-    let sender = bytes[1];
-    if sender < 1 || fleet.machines < sender {
-        return Err(FrameFault::Field(1));
-    }
-    let ballot = u16::from_be_bytes([bytes[2], bytes[3]]);
-    if ballot < 1 || V::HIGHEST < ballot {
-        return Err(FrameFault::Field(2));
-    }
-    Ok(Head { sender, ballot })
-}
-
-// A contribution to a ballot of the kind V, whatever the first byte is.
-fn read_contribution<V: ValueKind>(
+// Behind the kind byte a contribution and a fill have the same two fields: the sender, and the number of the ballot.
+fn read_ballot<V: ValueKind>(
     fleet: FleetSize,
-    bytes: &[u8],
-) -> Result<Contribution<V>, FrameFault>
-    ensures { result ≡ answered (contribution_layout V.ValueKind.kind fleet.machines bytes.now) }
+    sender: u8,
+    ballot: [u8; 2],
+) -> Result<u16, FrameFault>
+    ensures { result
+        ≡ unless_bad
+        (first_bad
+        (field 1 1 (within 1 fleet.machines sender)
+        ∷ field 2 2 (within 1 V.ValueKind.kind.highest (word ballot 0))
+        ∷ []))
+        (word ballot 0) }
 {
-    if bytes.len() != CONTRIBUTION_LENGTH {
-        return Err(FrameFault::Length);
-    }
-    let Head { sender, ballot } = read_head::<V>(fleet, bytes)?;
-    let round = u16::from_be_bytes([bytes[4], bytes[5]]);
-    if round < 1 || LAST_ROUND < round {
-        return Err(FrameFault::Field(4));
-    }
-    match V::read(fleet.machines, bytes[6], bytes[7]) {
-        Some(value) => Ok(Contribution {
+    let ballot = u16::from_be_bytes(ballot);
+    check_field(1, (1..=fleet.machines).contains(&sender))?;
+    check_field(2, (1..=V::HIGHEST).contains(&ballot))?;
+    Ok(ballot)
+}
+
+impl Received<'_> {
+    // A contribution to a ballot of the kind V, whatever the first byte is.
+    fn contribution<V: ValueKind>(self) -> Result<Contribution<V>, FrameFault>
+        ensures { result
+            ≡ answered (contribution_layout V.ValueKind.kind self.entry.fleet.machines self.entry.bytes.now) }
+    {
+        let [
+            _,
+            sender,
+            ballot_high,
+            ballot_low,
+            round_high,
+            round_low,
+            high,
+            low,
+        ] = *self.bytes
+        else {
+            return Err(FrameFault::Length);
+        };
+        let ballot = read_ballot::<V>(self.fleet, sender, [ballot_high, ballot_low])?;
+        let round = u16::from_be_bytes([round_high, round_low]);
+        check_field(4, (1..=LAST_ROUND).contains(&round))?;
+        let value = V::read(self.fleet.machines, high, low).ok_or(FrameFault::Field(6))?;
+        Ok(Contribution {
             sender,
             ballot,
             round,
             value,
-        }),
-        None => Err(FrameFault::Field(6)),
+        })
     }
-}
 
-// A fill of a ballot of the kind V, whatever the first byte is.
-fn read_fill<V: ValueKind>(fleet: FleetSize, bytes: &[u8]) -> Result<Fill<V>, FrameFault>
-    ensures { result ≡ answered (fill_layout V.ValueKind.kind fleet.machines bytes.now) }
-{
-    if bytes.len() != FILL_LENGTH {
-        return Err(FrameFault::Length);
-    }
-    let Head { sender, ballot } = read_head::<V>(fleet, bytes)?;
-    match V::read(fleet.machines, bytes[4], bytes[5]) {
-        Some(value) => Ok(Fill {
+    // A fill of a ballot of the kind V, whatever the first byte is.
+    fn fill<V: ValueKind>(self) -> Result<Fill<V>, FrameFault>
+        ensures { result ≡ answered (fill_layout V.ValueKind.kind self.entry.fleet.machines self.entry.bytes.now) }
+    {
+        let [_, sender, ballot_high, ballot_low, high, low] = *self.bytes else {
+            return Err(FrameFault::Length);
+        };
+        let ballot = read_ballot::<V>(self.fleet, sender, [ballot_high, ballot_low])?;
+        let value = V::read(self.fleet.machines, high, low).ok_or(FrameFault::Field(4))?;
+        Ok(Fill {
             sender,
             ballot,
             value,
-        }),
-        None => Err(FrameFault::Field(4)),
+        })
     }
-}
 
-// The first byte decides the kind: one of a question's two.
-fn read_question<Q: QuestionKind>(fleet: FleetSize, bytes: &[u8]) -> Result<Frame<Q>, FrameFault>
-    requires { 1 ≤ length bytes.now }
-    ensures { result ≡ question_reading Q.ValueKind.kind fleet.machines bytes.now }
-{
-    let kind = bytes[0];
-    if kind == Q::CONTRIBUTION {
-        Ok(Frame::QuestionContribution(read_contribution(fleet, bytes)?))
-    } else if kind == Q::FILL {
-        Ok(Frame::QuestionFill(read_fill(fleet, bytes)?))
-    } else {
-        Err(FrameFault::Kind)
-    }
-}
-
-// The first byte decides the kind: any of them.
-fn read_by_kind<Q: QuestionKind>(fleet: FleetSize, bytes: &[u8]) -> Result<Frame<Q>, FrameFault>
-    ensures { result ≡ reading Q.ValueKind.kind fleet.machines bytes.now }
-{
-    if bytes.len() == 0 {
-        return Err(FrameFault::Kind);
-    }
-    let kind = bytes[0];
-    if kind == Change::KIND {
-        Ok(Frame::Change((Received { fleet, bytes }).change()?))
-    } else if kind == Mark::CONTRIBUTION {
-        Ok(Frame::PlaceContribution(read_contribution(fleet, bytes)?))
-    } else if kind == Mark::FILL {
-        Ok(Frame::PlaceFill(read_fill(fleet, bytes)?))
-    } else {
-        read_question(fleet, bytes)
+    // The first byte decides the kind. It stays a byte: each value kind states its own two, and an enum would state them again.
+    fn frame<Q: QuestionKind>(self) -> Result<Frame<Q>, FrameFault>
+        ensures { result ≡ reading Q.ValueKind.kind self.entry.fleet.machines self.entry.bytes.now }
+    {
+        match *self.bytes.first().ok_or(FrameFault::Kind)? {
+            Change::KIND => Ok(Frame::Change(self.change()?)),
+            Mark::CONTRIBUTION => Ok(Frame::PlaceContribution(self.contribution()?)),
+            Mark::FILL => Ok(Frame::PlaceFill(self.fill()?)),
+            kind if kind == Q::CONTRIBUTION => Ok(Frame::QuestionContribution(
+                self.contribution()?,
+            )),
+            kind if kind == Q::FILL => Ok(Frame::QuestionFill(self.fill()?)),
+            _ => Err(FrameFault::Kind),
+        }
     }
 }
 
@@ -127,5 +106,5 @@ pub fn read<Q: QuestionKind>(fleet: FleetSize, bytes: &[u8]) -> Result<Frame<Q>,
     ensures spelled { Spelled Q.ValueKind.kind fleet.machines bytes.now result }
     ensures refused { RefusedFirst Q.ValueKind.kind fleet.machines bytes.now result }
 {
-    read_by_kind(fleet, bytes)
+    Received { fleet, bytes }.frame()
 }

@@ -7,7 +7,7 @@ returns g c =
     let K = g.Q.ValueKind.kind in
     let slot = g.met.Q.QuestionKind.slot in
     let fleet = c.args.fleet in
-    let r = c.read_by_kind in
+    let r = c.frame in
     record {
       answer = r.ensures;
       spelled =
