@@ -5,6 +5,7 @@ use Rattle.frames.specs.Clocks.{clock_of, machine_fields, count_fields}
 use Rattle.frames.specs.Fields.{byte, first_bad, unless_bad}
 use Rattle.frames.specs.declared.frame.Forerunners.{Forerunners}
 use Rattle.std.proofs.lemmas.Bool.Decides.{nat_tests}
+use Rattle.std.proofs.lemmas.Grind.{common_steps}
 use Rattle.std.proofs.lemmas.List.{take_rest}
 use Rattle.frames.proofs.received.Received.change.Goals as goal
 
@@ -18,6 +19,9 @@ split_pairs :
     → Ok g ≡ unless_bad (first_bad (machine_fields n (byte b 2) 8 0 ms ++ count_fields (8 + length ms) cs)) (record { counts = clock_of 9 1 ms cs })
     → (first_bad (pair_fields n b) ≡ None) × (g ≡ record { counts = clock_of 9 1 (machines_in b) (counts_in b) })
 split_pairs n m b ms cs g half few front back e = none_bad (pair_fields n b) _ g (rw (few, front, back, half) at e)
+
+pub returns-in_err-forerunners : goal.returns-in_err-forerunners
+returns-in_err-forerunners c = grind (arith, common_steps)
 
 pub returns : goal.returns
 returns c =
