@@ -53,6 +53,7 @@ fn check_counts(first: u8, counts: &[u8]) -> Result<(), FrameFault>
 }
 
 // The clock of these pairs, once their machine numbers and then their counts keep their rules.
+#[tactic(auto, using(crate::proofs::Tables::checked_append))]
 fn forerunners(
     fleet: FleetSize,
     author: u8,

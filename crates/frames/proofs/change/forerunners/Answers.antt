@@ -4,12 +4,6 @@ use Rattle.frames.proofs.Filled.{fill_start, fill_next, fill_end}
 use Rattle.std.proofs.lemmas.Slice.Zip.{Zip-more, either_empty_from_Zip}
 use Rattle.frames.proofs.change.forerunners.Goals as goal
 
-pub returns-in_err-check_machines : goal.returns-in_err-check_machines
-returns-in_err-check_machines c = rw (checked_append, ← c.in_err-check_machines.ensures) (search rules)
-
-pub returns-in_err-check_counts : goal.returns-in_err-check_counts
-returns-in_err-check_counts c = rw (checked_append, ← c.in_ok-check_machines.ensures, ← c.in_err-check_counts.ensures) (search rules)
-
 pub loop-machine-init : goal.loop-machine-init
 loop-machine-init c =
     let a = c.args in
