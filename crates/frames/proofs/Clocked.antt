@@ -1,7 +1,7 @@
 -- The clock of a frame's pairs, one machine at a time.
-use Rattle.std.proofs.Common.{◌≡◌, ℕ, suc, ◌+◌, ◌-◌, ◌<◌, ◌≤◌, Bool, true, false, cond, eqb, ◌≢◌, ◌⊎◌, List, [], ◌∷◌, ◌++◌, length, get_or, take, drop, set, sym, refl, ap, ◌∙◌, inl, inr, arith}
-use Rattle.frames.specs.Clocks.{clock_of, machines_of, counts_of}
-use Rattle.std.proofs.lemmas.List.{append_assoc, append-nil, take_all, length-take-le, get_or-set_other, length-set, drop_more, drop_all, take_more, take_more_set}
+use Rattle.std.proofs.Common.{◌≡◌, ℕ, suc, ◌+◌, ◌-◌, ◌<◌, ◌≤◌, eqb, ◌≢◌, ◌⊎◌, List, ◌∷◌, ◌++◌, length, get_or, take, drop, set, sym, refl, ◌∙◌, inl, inr, arith}
+use Rattle.frames.specs.Clocks.{clock_of}
+use Rattle.std.proofs.lemmas.List.{append_assoc, append-nil, take_all, get_or-set_other, length-set, drop_more, drop_all, take_more, take_more_set}
 use Rattle.std.proofs.lemmas.Bool.{cases_lt, cond-true, cond-false, eq-eqb, ne_eqb}
 
 -- the next pair is of machine j
