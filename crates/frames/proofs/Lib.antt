@@ -1,4 +1,3 @@
-pub mod Buffers
 pub mod Changed
 pub mod Clocked
 pub mod Covered

@@ -2,7 +2,7 @@
 ghost use Rattle.frames.specs.Faults.{fault_number, fault_offset, short_number};
 ghost use Rattle.std.specs.Prelude.{◌≡◌};
 
-#[derive(Clone, Copy)]
+#[derive(Clone, Copy, Debug, PartialEq, Eq)]
 pub enum FrameFault {
     // there is no byte, or the first is not a frame kind
     Kind,
@@ -12,19 +12,21 @@ pub enum FrameFault {
     Field(u8),
 }
 
-impl FrameFault {
-    // The number of the refusal.
-    pub fn number(self) -> u8
-        ensures { result ≡ fault_number self }
-    {
-        match self {
+// The number of the refusal.
+impl From<FrameFault> for u8 {
+    ghost from_gives = { λ fault number. number ≡ fault_number fault };
+
+    fn from(fault: FrameFault) -> u8 {
+        match fault {
             FrameFault::Kind => 2,
             FrameFault::Length => 3,
             FrameFault::Field(_) => 4,
         }
     }
+}
 
-    // The offset that it carries; 0 where it carries none.
+impl FrameFault {
+    // The offset that it carries; 0 where it carries none, which is how a refusal is told.
     pub fn offset(self) -> u8
         ensures { result ≡ fault_offset self }
     {
@@ -37,14 +39,14 @@ impl FrameFault {
 }
 
 // The buffer that a frame was to be written into is shorter than the frame.
-#[derive(Clone, Copy)]
+#[derive(Clone, Copy, Debug, PartialEq, Eq)]
 pub struct BufferTooShort;
 
-impl BufferTooShort {
-    // The number of the refusal.
-    pub fn number(self) -> u8
-        ensures { result ≡ short_number self }
-    {
+// The number of the refusal.
+impl From<BufferTooShort> for u8 {
+    ghost from_gives = { λ fault number. number ≡ short_number fault };
+
+    fn from(_fault: BufferTooShort) -> u8 {
         18
     }
 }

@@ -3,13 +3,13 @@ use values::mark::Mark;
 
 // The forerunners of a change, as a vector clock: at index j - 1 the count of machine j's pair, or 0 where no pair names j.
 // A pair of machine j and count c says that the changes 1 to c of j come before this one.
-#[derive(Clone, Copy)]
+#[derive(Clone, Copy, Debug, PartialEq, Eq)]
 pub struct Forerunners {
     pub counts: [u8; 9],
 }
 
 // A change of a setting, as its author posted it. Author and number together are its mark.
-#[derive(Clone, Copy)]
+#[derive(Clone, Copy, Debug, PartialEq, Eq)]
 pub struct Change {
     pub author: u8,
     pub number: u8,
@@ -27,7 +27,7 @@ impl Change {
 }
 
 // What a sender says in one round of a ballot: a place or a question, by the kind of its value.
-#[derive(Clone, Copy)]
+#[derive(Clone, Copy, Debug, PartialEq, Eq)]
 pub struct Contribution<V> {
     pub sender: u8,
     pub ballot: u16,
@@ -36,7 +36,7 @@ pub struct Contribution<V> {
 }
 
 // What a sender has filled a ballot with.
-#[derive(Clone, Copy)]
+#[derive(Clone, Copy, Debug, PartialEq, Eq)]
 pub struct Fill<V> {
     pub sender: u8,
     pub ballot: u16,
@@ -45,7 +45,7 @@ pub struct Fill<V> {
 
 // Every frame. A ballot is a place, a numbered position in the shared book whose value is a mark, or a question, a numbered
 // matter such as an oil temperature whose value is of the kind Q.
-#[derive(Clone, Copy)]
+#[derive(Clone, Copy, Debug, PartialEq, Eq)]
 pub enum Frame<Q> {
     Change(Change),
     PlaceContribution(Contribution<Mark>),

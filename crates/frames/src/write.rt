@@ -8,18 +8,12 @@ ghost use Rattle.frames.specs.Writing.{write_answer, written};
 
 use crate::fault::BufferTooShort;
 use crate::frame::{Change, Contribution, Fill, Frame};
-use crate::pairs::Pairs;
+use crate::pairs::Pair;
+use arrayvec::ArrayVec;
 use values::kind::{QuestionKind, ValueKind};
-use values::mark::Mark;
 
-// Puts bytes into the buffer at an offset, where there is room for them.
-fn put_at(buffer: &mut [u8], at: usize, bytes: &[u8])
-    requires { at + length bytes.now ≤ length buffer.old }
-    ensures { buffer.new ≡ take at buffer.old ++ (bytes.now ++ drop (at + length bytes.now) buffer.old) }
-{
-    let end = at + bytes.len();
-    buffer[at..end].copy_from_slice(bytes);
-}
+// A change with a pair for each of nine machines has so many bytes, and no frame has more.
+const MOST_BYTES: usize = 26;
 
 // Puts bytes at the front of the buffer, or refuses where it is too short.
 fn put(buffer: &mut [u8], bytes: &[u8]) -> Result<usize, BufferTooShort>
@@ -29,95 +23,77 @@ fn put(buffer: &mut [u8], bytes: &[u8]) -> Result<usize, BufferTooShort>
     if buffer.len() < bytes.len() {
         return Err(BufferTooShort);
     }
-    put_at(buffer, 0, bytes);
+    buffer[..bytes.len()].copy_from_slice(bytes);
     Ok(bytes.len())
 }
 
-fn contribution_bytes<V: ValueKind>(c: Contribution<V>) -> [u8; 8]
-    ensures { result ≡ contribution_spelling V.ValueKind.kind c }
-{
-    let ballot = c.ballot.to_be_bytes();
-    let round = c.round.to_be_bytes();
-    let value = c.value.write();
-    [
-        V::CONTRIBUTION,
-        c.sender,
-        ballot[0],
-        ballot[1],
-        round[0],
-        round[1],
-        value[0],
-        value[1],
-    ]
-}
-
-fn fill_bytes<V: ValueKind>(f: Fill<V>) -> [u8; 6]
-    ensures { result ≡ fill_spelling V.ValueKind.kind f }
-{
-    let ballot = f.ballot.to_be_bytes();
-    let value = f.value.write();
-    [
-        V::FILL,
-        f.sender,
-        ballot[0],
-        ballot[1],
-        value[0],
-        value[1],
-    ]
-}
-
-// The eight bytes of a change before its pairs.
-fn change_head(change: &Change, pairs: u8) -> [u8; 8]
-    ensures { result ≡ head_spelling change.now pairs }
-{
-    let setting = change.setting.to_be_bytes();
-    let level = change.level.to_be_bytes();
-    [
-        Change::KIND,
-        pairs,
-        change.author,
-        change.number,
-        setting[0],
-        setting[1],
-        level[0],
-        level[1],
-    ]
-}
-
-// Puts three parts one behind the other at the front of the buffer, or refuses where it is too short.
-fn put_parts(
-    buffer: &mut [u8],
-    head: &[u8],
-    machines: &[u8],
-    counts: &[u8],
-) -> Result<usize, BufferTooShort>
-    requires { length head.now + (length machines.now + length counts.now) ≤ 26 }
-    ensures answer { result ≡ write_answer (head.now ++ (machines.now ++ counts.now)) buffer.old }
-    ensures after { buffer.new ≡ written (head.now ++ (machines.now ++ counts.now)) buffer.old }
-{
-    let second = head.len();
-    let third = second + machines.len();
-    let end = third + counts.len();
-    if buffer.len() < end {
-        return Err(BufferTooShort);
+impl<V: ValueKind> Contribution<V> {
+    fn bytes(&self) -> [u8; 8]
+        ensures { result ≡ contribution_spelling V.ValueKind.kind self.now }
+    {
+        let [ballot_high, ballot_low] = self.ballot.to_be_bytes();
+        let [round_high, round_low] = self.round.to_be_bytes();
+        let [high, low] = self.value.write();
+        [
+            V::CONTRIBUTION,
+            self.sender,
+            ballot_high,
+            ballot_low,
+            round_high,
+            round_low,
+            high,
+            low,
+        ]
     }
-    put_at(buffer, 0, head);
-    put_at(buffer, second, machines);
-    put_at(buffer, third, counts);
-    Ok(end)
 }
 
-fn write_change(change: &Change, buffer: &mut [u8]) -> Result<usize, BufferTooShort>
-    ensures answer { result ≡ write_answer (change_spelling change.now) buffer.old }
-    ensures after { buffer.new ≡ written (change_spelling change.now) buffer.old }
-{
-    let Pairs {
-        len,
-        machines,
-        counts,
-    } = change.forerunners.pairs();
-    let head = change_head(change, len as u8);
-    put_parts(buffer, &head, &machines[0..len], &counts[0..len])
+impl<V: ValueKind> Fill<V> {
+    fn bytes(&self) -> [u8; 6]
+        ensures { result ≡ fill_spelling V.ValueKind.kind self.now }
+    {
+        let [ballot_high, ballot_low] = self.ballot.to_be_bytes();
+        let [high, low] = self.value.write();
+        [V::FILL, self.sender, ballot_high, ballot_low, high, low]
+    }
+}
+
+impl Change {
+    // The eight bytes before the pairs.
+    fn head(&self, pairs: u8) -> [u8; 8]
+        ensures { result ≡ head_spelling self.now pairs }
+    {
+        let [setting_high, setting_low] = self.setting.to_be_bytes();
+        let [level_high, level_low] = self.level.to_be_bytes();
+        [
+            Change::KIND,
+            pairs,
+            self.author,
+            self.number,
+            setting_high,
+            setting_low,
+            level_high,
+            level_low,
+        ]
+    }
+
+    // Behind the head stand the machine numbers of all pairs, and behind them their counts.
+    fn bytes(&self) -> ArrayVec<u8, MOST_BYTES>
+        ensures { result.items ≡ change_spelling self.now }
+    {
+        let pairs = self.forerunners.pairs();
+        let pairs = pairs.as_slice();
+        let mut bytes = ArrayVec::new();
+        bytes
+            .try_extend_from_slice(&self.head(pairs.len() as u8))
+            .unwrap();
+        for Pair { machine, .. } in pairs {
+            bytes.push(*machine);
+        }
+        for Pair { count, .. } in pairs {
+            bytes.push(*count);
+        }
+        bytes
+    }
 }
 
 fn write_by_kind<Q: QuestionKind>(
@@ -128,11 +104,11 @@ fn write_by_kind<Q: QuestionKind>(
     ensures after { buffer.new ≡ written (spelling Q.ValueKind.kind frame.now) buffer.old }
 {
     match frame {
-        Frame::Change(change) => write_change(change, buffer),
-        Frame::PlaceContribution(c) => put(buffer, &contribution_bytes(*c)),
-        Frame::PlaceFill(f) => put(buffer, &fill_bytes(*f)),
-        Frame::QuestionContribution(c) => put(buffer, &contribution_bytes(*c)),
-        Frame::QuestionFill(f) => put(buffer, &fill_bytes(*f)),
+        Frame::Change(change) => put(buffer, &change.bytes()),
+        Frame::PlaceContribution(c) => put(buffer, &c.bytes()),
+        Frame::PlaceFill(f) => put(buffer, &f.bytes()),
+        Frame::QuestionContribution(c) => put(buffer, &c.bytes()),
+        Frame::QuestionFill(f) => put(buffer, &f.bytes()),
     }
 }
 
