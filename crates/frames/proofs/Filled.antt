@@ -85,5 +85,5 @@ fill_next clock m c left left' ms cs all e e' f =
 pub fill_end : (clock ms cs all : List ℕ) → (ms ≡ []) ⊎ (cs ≡ []) → Fills clock ms cs all → clock ≡ all
 fill_end clock [] cs all e f = f.1
 fill_end clock (m ∷ ms) [] all e f = f.1
-fill_end clock (m ∷ ms) (c ∷ cs) all (inl e) f = absurd (let z : ◌≡◌ {A = ℕ} 0 1 = cc in omega arith)
-fill_end clock (m ∷ ms) (c ∷ cs) all (inr e) f = absurd (let z : ◌≡◌ {A = ℕ} 0 1 = cc in omega arith)
+fill_end clock (m ∷ ms) (c ∷ cs) all (inl e) f = cc
+fill_end clock (m ∷ ms) (c ∷ cs) all (inr e) f = cc

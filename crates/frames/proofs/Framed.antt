@@ -22,7 +22,7 @@ framed_ok :
     → framed make r ≡ Ok g
     → (f : F) × (r ≡ Ok f) × (make f ≡ g)
 framed_ok make (Ok f) g e = (f, refl, cc)
-framed_ok make (Err fault) g e = absurd (let z : ◌≡◌ {A = ℕ} 0 1 = cc in omega arith)
+framed_ok make (Err fault) g e = cc
 
 -- the layout that a first byte of 4 or 5 decides
 module _ {Q : Type 0} (K : Kind Q) (four : K.contribution ≡ 4) (five : K.fill ≡ 5) (n : ℕ) (b : List ℕ) where
@@ -88,7 +88,7 @@ module _ {Q : Type 0} (K : Kind Q) (L : Lawful K) (four : K.contribution ≡ 4) 
         (λ is. from_layout QuestionContribution _ (λ c. contribution_only K L n one nine b bytes c (eqb-true (byte b 0) K.contribution is)))
         (step (eqb (byte b 0) K.fill) _ _
         (λ is. from_layout QuestionFill _ (λ g. fill_only K L n one nine b bytes g (eqb-true (byte b 0) K.fill is)))
-        (λ e. absurd (let z : ◌≡◌ {A = ℕ} 0 1 = cc in omega arith))))))
+        (λ e. cc)))))
 
   pub spelled : (n : ℕ) → 1 ≤ n → n ≤ 9 → (b : List ℕ) → Bytes b → (r : Result (Frame Q) FrameFault) → r ≡ reading K n b → Spelled K n b r
   spelled n one nine b bytes (Ok f) e = only_spelling n one nine b bytes f (sym e)

@@ -1,5 +1,5 @@
 -- A refused reading is the first refusal that fits.
-use Rattle.std.proofs.Common.{◌≡◌, ℕ, Bool, true, false, cond, eqb, List, Some, None, Ok, Err, Option, Result, sym, refl, inl, inr, arith}
+use Rattle.std.proofs.Common.{◌≡◌, ℕ, Bool, true, false, cond, eqb, List, Some, None, Ok, Err, Option, Result, sym, refl, inl, inr}
 use Rattle.frames.proofs.Words.{breaks_first}
 use Rattle.frames.specs.Fields.{Layout, Refuses, byte, first_bad, unless_bad, answered}
 use Rattle.frames.specs.Frames.{FirstRefusal, framed, reading}
@@ -11,7 +11,7 @@ use Rattle.std.proofs.lemmas.Bool.{eqb-true, eqb-false}
 use Rattle.values.specs.Kinds.{Kind}
 
 framed_err : {F G : Type 0} (make : F → G) (r : Result F FrameFault) (e : FrameFault) → framed make r ≡ Err e → r ≡ Err e
-framed_err make (Ok f) e is = absurd (let z : ◌≡◌ {A = ℕ} 0 1 = cc in omega arith)
+framed_err make (Ok f) e is = cc
 framed_err make (Err fault) e is = cc
 
 layout_refuses : {F : Type 0} (layout : Layout F) (e : FrameFault) → answered layout ≡ Err e → Refuses layout e
@@ -24,15 +24,15 @@ layout_refuses {F} layout e is = go e layout.whole refl (first_bad layout.fields
         → first_bad layout.fields ≡ o
         → ◌≡◌ {A = Result F FrameFault} (cond w (unless_bad o layout.shown) (Err Length)) (Err fault)
         → Refuses layout fault
-    go Unknown true ws (Some at) os eq = absurd (let z : ◌≡◌ {A = ℕ} 0 1 = cc in omega arith)
-    go Unknown true ws None os eq = absurd (let z : ◌≡◌ {A = ℕ} 0 1 = cc in omega arith)
-    go Unknown false ws o os eq = absurd (let z : ◌≡◌ {A = ℕ} 0 1 = cc in omega arith)
-    go Length true ws (Some at) os eq = absurd (let z : ◌≡◌ {A = ℕ} 0 1 = cc in omega arith)
-    go Length true ws None os eq = absurd (let z : ◌≡◌ {A = ℕ} 0 1 = cc in omega arith)
+    go Unknown true ws (Some at) os eq = cc
+    go Unknown true ws None os eq = cc
+    go Unknown false ws o os eq = cc
+    go Length true ws (Some at) os eq = cc
+    go Length true ws None os eq = cc
     go Length false ws o os eq = ws
     go (Broken at) true ws (Some at') os eq = let same : at' ≡ at = cc in (ws, breaks_first layout.fields at (rw same at os))
-    go (Broken at) true ws None os eq = absurd (let z : ◌≡◌ {A = ℕ} 0 1 = cc in omega arith)
-    go (Broken at) false ws o os eq = absurd (let z : ◌≡◌ {A = ℕ} 0 1 = cc in omega arith)
+    go (Broken at) true ws None os eq = cc
+    go (Broken at) false ws o os eq = cc
 
 -- one step through the kinds: the layout of this kind refuses, or it is not this kind
 step :

@@ -53,7 +53,7 @@ all_hold (r ∷ rs) h = go r.holds (all_hold rs) h
         → cond b (first_bad rs) (Some r.at) ≡ None
         → (b ≡ true) × AllHold rs
     go true more e = (refl, more e)
-    go false more e = absurd (let z : ◌≡◌ {A = ℕ} 0 1 = cc in omega arith)
+    go false more e = cc
 
 -- a table behind another
 pub hold_parts : (front back : List Field) → AllHold (front ++ back) → AllHold front × AllHold back
@@ -62,7 +62,7 @@ hold_parts (r ∷ rs) back h = let parts = hold_parts rs back h.1 in ((h.0, part
 
 -- the field that a table tells is one of its own, it breaks, and none before it does
 pub breaks_first : (table : List Field) (at : ℕ) → first_bad table ≡ Some at → BreaksFirst table at
-breaks_first [] at h = absurd (let z : ◌≡◌ {A = ℕ} 0 1 = cc in omega arith)
+breaks_first [] at h = cc
 breaks_first (r ∷ rs) at h = go r.holds refl (breaks_first rs at) h
   where
     go :
@@ -86,9 +86,9 @@ answered_ok {F} layout f h = go layout.whole (first_bad layout.fields) h
         → ◌≡◌ {A = Result F FrameFault} (cond b (unless_bad o layout.shown) (Err Length)) (Ok f)
         → (b ≡ true) × (o ≡ None) × (layout.shown ≡ f)
     go true None e = (refl, refl, cc)
-    go true (Some at) e = absurd (let z : ◌≡◌ {A = ℕ} 0 1 = cc in omega arith)
-    go false None e = absurd (let z : ◌≡◌ {A = ℕ} 0 1 = cc in omega arith)
-    go false (Some at) e = absurd (let z : ◌≡◌ {A = ℕ} 0 1 = cc in omega arith)
+    go true (Some at) e = cc
+    go false None e = cc
+    go false (Some at) e = cc
 
 pub ok_answered :
     {F : Type 0} (layout : Layout F)
