@@ -93,7 +93,7 @@ module _ {Q : Type 0} (K : Kind Q) (L : Lawful K) (four : K.contribution ≡ 4) 
   pub spelled : (n : ℕ) → 1 ≤ n → n ≤ 9 → (b : List ℕ) → Bytes b → (r : Result (Frame Q) FrameFault) → r ≡ reading K n b → Spelled K n b r
   spelled n one nine b bytes (Ok f) e = only_spelling n one nine b bytes f (sym e)
   spelled n one nine b bytes (Err fault) e =
-      λ f v is. let back = reads_back n f one nine v in let z : ◌≡◌ {A = ℕ} 0 1 = cc in omega arith
+      λ f v is. let back = reads_back n f one nine v in cc
 
   -- what a buffer holds after a frame was written reads as that frame
   pub found_back :

@@ -1,11 +1,11 @@
 -- A refused reading is the first refusal that fits.
-use Rattle.std.proofs.Common.{◌≡◌, ℕ, Bool, true, false, cond, eqb, List, Some, None, Ok, Err, Option, Result, sym, refl, inl, inr}
+use Rattle.std.proofs.Common.{◌≡◌, ℕ, Bool, true, false, cond, eqb, List, Some, None, Ok, Err, Option, Result, sym, refl, subst, inl, inr}
 use Rattle.frames.proofs.Words.{breaks_first}
 use Rattle.frames.specs.Fields.{Layout, Refuses, byte, first_bad, unless_bad, answered}
 use Rattle.frames.specs.Frames.{FirstRefusal, framed, reading}
 use Rattle.frames.specs.Spelled.{RefusedFirst}
 use Rattle.frames.specs.declared.fault.FrameFault.{FrameFault}
-use Rattle.frames.specs.declared.fault.FrameFault.TheVariants.{Kind as Unknown, Length, Field as Broken}
+use Rattle.frames.specs.declared.fault.FrameFault.TheVariants.{Length, Field as Broken}
 use Rattle.frames.specs.declared.frame.Frame.{Frame}
 use Rattle.std.proofs.lemmas.Bool.{eqb-true, eqb-false}
 use Rattle.values.specs.Kinds.{Kind}
@@ -15,24 +15,18 @@ framed_err make (Ok f) e is = cc
 framed_err make (Err fault) e is = cc
 
 layout_refuses : {F : Type 0} (layout : Layout F) (e : FrameFault) → answered layout ≡ Err e → Refuses layout e
-layout_refuses {F} layout e is = go e layout.whole refl (first_bad layout.fields) refl is
+layout_refuses {F} layout e is = go layout.whole refl (first_bad layout.fields) refl is
   where
     go :
-        (fault : FrameFault) (w : Bool)
+        (w : Bool)
         → layout.whole ≡ w
         → (o : Option ℕ)
         → first_bad layout.fields ≡ o
-        → ◌≡◌ {A = Result F FrameFault} (cond w (unless_bad o layout.shown) (Err Length)) (Err fault)
-        → Refuses layout fault
-    go Unknown true ws (Some at) os eq = cc
-    go Unknown true ws None os eq = cc
-    go Unknown false ws o os eq = cc
-    go Length true ws (Some at) os eq = cc
-    go Length true ws None os eq = cc
-    go Length false ws o os eq = ws
-    go (Broken at) true ws (Some at') os eq = let same : at' ≡ at = cc in (ws, breaks_first layout.fields at (rw same at os))
-    go (Broken at) true ws None os eq = cc
-    go (Broken at) false ws o os eq = cc
+        → ◌≡◌ {A = Result F FrameFault} (cond w (unless_bad o layout.shown) (Err Length)) (Err e)
+        → Refuses layout e
+    go false ws o os eq = let same : Length ≡ e = cc in subst (Refuses layout) same ws
+    go true ws None os eq = cc
+    go true ws (Some at) os eq = let same : Broken at ≡ e = cc in subst (Refuses layout) same (ws, breaks_first layout.fields at os)
 
 -- one step through the kinds: the layout of this kind refuses, or it is not this kind
 step :
