@@ -2,8 +2,7 @@
 use Rattle.std.proofs.Common.{◌≡◌, ℕ, zero, suc, ◌+◌, ◌-◌, ◌<◌, ◌≤◌, ◌⊎◌, List, [], ◌∷◌, length, replicate, set, Ok, refl, ap, inl, inr, arith}
 use Rattle.frames.proofs.Clocked.{clock_named, clock_other}
 use Rattle.frames.proofs.Paired.{Rising, fields_rise}
-use Rattle.frames.proofs.Tables.{checked_none}
-use Rattle.frames.proofs.Words.{all_hold}
+use Rattle.frames.proofs.Words.{all_hold, checked_none}
 use Rattle.frames.specs.Clocks.{clock_of, machine_fields, count_fields}
 use Rattle.frames.specs.Fields.{checked}
 use Rattle.std.proofs.lemmas.Bool.{cases_eq}

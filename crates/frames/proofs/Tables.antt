@@ -20,17 +20,6 @@ first_bad_append (x ∷ xs) ys = go x.holds (first_bad_append xs ys)
 pub first_bad_behind : (front back : List Field) → first_bad front ≡ None → first_bad (front ++ back) ≡ first_bad back
 first_bad_behind front back h = rw (first_bad_append, h)
 
--- a table that does not refuse has no field that breaks
-pub none_bad : {F : Type 0} (table : List Field) (f g : F) → Ok g ≡ unless_bad (first_bad table) f → (first_bad table ≡ None) × (g ≡ f)
-none_bad {F} table f g e = go (first_bad table) e
-  where
-    go : (o : Option ℕ) → ◌≡◌ {A = Result F FrameFault} (Ok g) (unless_bad o f) → (o ≡ None) × (g ≡ f)
-    go None e = (refl, cc)
-    go (Some at) e = cc
-
-pub checked_none : (table : List Field) → Ok tt ≡ checked table → first_bad table ≡ None
-checked_none table e = (none_bad table tt tt e).0
-
 -- two tables are checked one after the other
 pub checked_append :
     {F : Type 0} (front back : List Field) (f : F)

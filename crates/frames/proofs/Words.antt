@@ -1,7 +1,7 @@
 -- Two bytes and the number that they make, and what it says that a table of fields answers Ok.
-use Rattle.std.proofs.Common.{◌≡◌, ℕ, ◌+◌, ◌*◌, ◌<◌, ◌≤◌, Bool, true, false, cond, List, [], ◌∷◌, ◌++◌, length, drop, ℤ, Some, None, Ok, Err, Option, Result, refl, ap, ◌∙◌, arith, w16, Fits, SFits, to_z, of_z}
+use Rattle.std.proofs.Common.{◌≡◌, ℕ, ◌+◌, ◌*◌, ◌<◌, ◌≤◌, Bool, true, false, cond, List, [], ◌∷◌, ◌++◌, length, drop, ℤ, Some, None, Ok, Err, Option, Result, sym, refl, ap, ◌∙◌, arith, w16, Fits, SFits, to_z, of_z}
 use mir.ValLaws.{to_z-Fits, of_z_fits, to_z-of_z, of_z-to_z}
-use Rattle.frames.specs.Fields.{Field, Layout, AllHold, BreaksFirst, byte, high, low, within, first_bad, unless_bad, answered}
+use Rattle.frames.specs.Fields.{Field, Layout, AllHold, BreaksFirst, byte, high, low, within, first_bad, unless_bad, checked, answered}
 use Rattle.frames.specs.declared.fault.FrameFault.{FrameFault}
 use Rattle.frames.specs.declared.fault.FrameFault.TheVariants.{Length}
 use Rattle.std.proofs.lemmas.List.{drop_more}
@@ -74,21 +74,30 @@ breaks_first (r ∷ rs) at h = go r.holds refl (breaks_first rs at) h
     go true is more e = let m = more e in (r ∷ m.0, m.1, m.2, ap (λ xs. r ∷ xs) m.3, (is, m.4), m.5, m.6)
     go false is more e = ([], r, rs, refl, tt, is, cc)
 
+-- a table that does not refuse has no field that breaks
+pub none_bad : {F : Type 0} (table : List Field) (f g : F) → Ok g ≡ unless_bad (first_bad table) f → (first_bad table ≡ None) × (g ≡ f)
+none_bad {F} table f g e = go (first_bad table) e
+  where
+    go : (o : Option ℕ) → ◌≡◌ {A = Result F FrameFault} (Ok g) (unless_bad o f) → (o ≡ None) × (g ≡ f)
+    go None e = (refl, cc)
+    go (Some at) e = cc
+
+pub checked_none : (table : List Field) → Ok tt ≡ checked table → first_bad table ≡ None
+checked_none table e = (none_bad table tt tt e).0
+
 -- a layout that answers a record is whole, no field breaks, and the record is what the fields show
 pub answered_ok :
     {F : Type 0} (layout : Layout F) (f : F)
     → answered layout ≡ Ok f
     → (layout.whole ≡ true) × (first_bad layout.fields ≡ None) × (layout.shown ≡ f)
-answered_ok {F} layout f h = go layout.whole (first_bad layout.fields) h
+answered_ok {F} layout f h = go layout.whole h
   where
     go :
-        (b : Bool) (o : Option ℕ)
-        → ◌≡◌ {A = Result F FrameFault} (cond b (unless_bad o layout.shown) (Err Length)) (Ok f)
-        → (b ≡ true) × (o ≡ None) × (layout.shown ≡ f)
-    go true None e = (refl, refl, cc)
-    go true (Some at) e = cc
-    go false None e = cc
-    go false (Some at) e = cc
+        (b : Bool)
+        → ◌≡◌ {A = Result F FrameFault} (cond b (unless_bad (first_bad layout.fields) layout.shown) (Err Length)) (Ok f)
+        → (b ≡ true) × (first_bad layout.fields ≡ None) × (layout.shown ≡ f)
+    go true e = let n = none_bad layout.fields layout.shown f (sym e) in (refl, n.0, sym n.1)
+    go false e = cc
 
 pub ok_answered :
     {F : Type 0} (layout : Layout F)
