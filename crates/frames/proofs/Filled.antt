@@ -1,17 +1,11 @@
 -- A clock that is filled from its pairs, one at a time.
 use Rattle.std.proofs.Common.{◌≡◌, ℕ, zero, suc, ◌+◌, ◌-◌, ◌<◌, ◌≤◌, ◌⊎◌, List, [], ◌∷◌, length, replicate, set, Ok, refl, ap, inl, inr, arith}
 use Rattle.frames.proofs.Clocked.{clock_named, clock_other}
-use Rattle.frames.proofs.Paired.{Rising, fields_rise}
+use Rattle.frames.proofs.Paired.{Rising, rising_lower, fields_rise}
 use Rattle.frames.proofs.Words.{all_hold, checked_none}
 use Rattle.frames.specs.Clocks.{clock_of, machine_fields, count_fields}
 use Rattle.frames.specs.Fields.{checked}
 use Rattle.std.proofs.lemmas.Bool.{cases_eq}
-
-rising_lower : (low least top : ℕ) (ms cs : List ℕ) → low ≤ least → Rising least top ms cs → Rising low top ms cs
-rising_lower low least top [] [] l r = tt
-rising_lower low least top [] (c ∷ cs) l r = r
-rising_lower low least top (m ∷ ms) [] l r = r
-rising_lower low least top (m ∷ ms) (c ∷ cs) l r = (omega (arith, r.0), r.1, r.2, r.3)
 
 -- the counts of pairs, each put into a clock that begins at machine j
 abbrev pub put_all : ℕ → List ℕ → List ℕ → List ℕ → List ℕ

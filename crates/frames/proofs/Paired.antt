@@ -192,8 +192,11 @@ Rising least top [] (c ∷ cs) = ⊥
 Rising least top (m ∷ ms) [] = ⊥
 Rising least top (m ∷ ms) (c ∷ cs) = (least ≤ m) × (m < top) × (1 ≤ c) × Rising (m + 1) top ms cs
 
-rising_from : (a b top : ℕ) (ms cs : List ℕ) → a ≡ b → Rising a top ms cs → Rising b top ms cs
-rising_from a b top ms cs e r = let Q : ℕ → Type 0 = λ k. Rising k top ms cs in subst Q e r
+pub rising_lower : (low least top : ℕ) (ms cs : List ℕ) → low ≤ least → Rising least top ms cs → Rising low top ms cs
+rising_lower low least top [] [] l r = tt
+rising_lower low least top [] (c ∷ cs) l r = r
+rising_lower low least top (m ∷ ms) [] l r = r
+rising_lower low least top (m ∷ ms) (c ∷ cs) l r = (omega (arith, r.0), r.1, r.2, r.3)
 
 -- the clock of such pairs gives those pairs
 pub pairs_back :
@@ -210,7 +213,7 @@ pairs_back (suc size) j top [] (c ∷ cs) t r = absurd r
 pairs_back (suc size) j top (m ∷ ms) [] t r = absurd r
 pairs_back (suc size) j top (m ∷ ms) (c ∷ cs) t r =
     go (cases_eq m j)
-    (λ e. pairs_back size (j + 1) top ms cs (omega arith) (rising_from (m + 1) (j + 1) top ms cs (ap (λ k. k + 1) e) r.3))
+    (λ e. pairs_back size (j + 1) top ms cs (omega arith) (rising_lower (j + 1) (m + 1) top ms cs (omega arith) r.3))
     (λ ne. pairs_back size (j + 1) top (m ∷ ms) (c ∷ cs) (omega arith) (omega (arith, r.0, ne), r.1, r.2, r.3))
   where
     go :
