@@ -9,7 +9,7 @@ use Rattle.frames.specs.Fields.{AllHold, byte, word, first_bad, answered}
 use Rattle.frames.specs.Spelled.{Bytes}
 use Rattle.frames.specs.declared.frame.Change.{Change}
 use Rattle.std.proofs.lemmas.List.{take_at, drop_at, length-append, length-take-le, length-drop, take-append-drop}
-use Rattle.std.proofs.lemmas.Bool.{cases_lt, and_from, and_parts, le-leb, leb-true, eq-eqb, eqb-true}
+use Rattle.std.proofs.lemmas.Bool.{cases_lt, and_from, and_parts, le-leb, eq-eqb, eqb-true}
 
 module _ (n : ℕ) (one : 1 ≤ n) (nine : n ≤ 9) where
   module _ (c : Change) (v : ValidChange n c) where
@@ -88,9 +88,6 @@ module _ (n : ℕ) (one : 1 ≤ n) (nine : n ≤ 9) where
   module _ (b : List ℕ) (bytes : Bytes b) (is : change_whole b ≡ true) where
     abbrev there : List ℕ
     there = clock_of 9 1 (machines_in b) (counts_in b)
-
-    m_few : pairs b ≤ 8
-    m_few = leb-true (pairs b) 8 (and_parts _ _ is).0
 
     long : length b ≡ 8 + 2 * pairs b
     long = eqb-true (length b) (8 + 2 * pairs b) (and_parts _ _ is).1

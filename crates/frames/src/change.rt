@@ -1,7 +1,7 @@
 // Reading a change.
 ghost use Rattle.std.specs.Prelude.{◌≡◌, ◌+◌, ◌≤◌, [], ◌∷◌, ◌++◌, length};
 ghost use Rattle.frames.specs.Changes.{change_layout};
-ghost use Rattle.frames.specs.Clocks.{clock_of, count_fields, machine_fields, machine_fits};
+ghost use Rattle.frames.specs.Clocks.{clock_of, count_fields, machine_fields};
 ghost use Rattle.frames.specs.Fields.{answered, checked, field, first_bad, unless_bad, within};
 
 use crate::fault::FrameFault;
@@ -27,7 +27,7 @@ fn check_fixed(fleet: FleetSize, author: u8, number: u8, setting: u16) -> Result
     check_field(4, setting <= Change::LAST_SETTING)
 }
 
-// Machine numbers rise, and none is the author's. The first of them stands at offset 8.
+// Machine numbers rise within the fleet, and none is the author's. The first of them stands at offset 8.
 fn check_machines(fleet: FleetSize, author: u8, machines: &[u8]) -> Result<(), FrameFault>
     requires { length machines.now ≤ 8 }
     ensures { result ≡ checked (machine_fields fleet.machines author 8 0 machines.now) }
