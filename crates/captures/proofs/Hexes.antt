@@ -1,7 +1,16 @@
 -- Reading hexadecimal, one step at a time.
-use Rattle.std.proofs.Common.{◌≡◌, ℕ, ◌+◌, ◌-◌, ◌≤◌, true, false, List, [], ◌∷◌, ◌++◌, drop, get_or, length, take, Ok, Err, Result, Some, sym, refl, ap, arith}
-use Rattle.captures.specs.Hex.{blank, byte_of, with_byte, hex_from, hex_line}
+use Rattle.std.proofs.Common.{◌≡◌, ℕ, ◌+◌, ◌-◌, ◌*◌, ◌<◌, ◌≤◌, true, false, List, [], ◌∷◌, ◌++◌, drop, get_or, length, take, Ok, Err, Result, Some, sym, refl, ap, arith}
+use Rattle.std.specs.Char.{digit_value}
+use Rattle.std.proofs.lemmas.Grind.{common_steps}
+use Rattle.captures.specs.Hex.{blank, byte_of, digit, nibble, with_byte, hex_from, hex_line}
 use Rattle.std.proofs.lemmas.List.{append_assoc, take_rest}
+
+-- the library's value of a digit is what it counts
+one_digit : (c : ℕ) → digit_value c < 16 → (digit c ≡ true) × (nibble c ≡ digit_value c)
+one_digit c low = (grind (arith, common_steps), grind (arith, common_steps))
+
+pub two_digits : (x y : ℕ) → digit_value x < 16 → digit_value y < 16 → byte_of x y ≡ Some (digit_value x * 16 + digit_value y)
+two_digits x y hx hy = let a = one_digit x hx in let b = one_digit y hy in rw (a.0, a.1, b.0, b.1)
 
 -- bytes that were read already, in front of the answer to the rest
 abbrev pub behind : List ℕ → Result (List ℕ) ℕ → Result (List ℕ) ℕ

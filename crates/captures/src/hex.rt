@@ -27,6 +27,7 @@ pub(crate) fn is_blank(c: u8) -> bool
 }
 
 // The byte that two digits make.
+#[tactic(auto, using(crate::proofs::Hexes::two_digits))]
 fn byte_of(high: u8, low: u8) -> Option<u8>
     ensures { result ≡ byte_of high low }
 {
