@@ -1,24 +1,26 @@
 -- The words of pairs, one pair at a time.
-use Rattle.std.proofs.Common.{◌≡◌, ℕ, ◌+◌, ◌<◌, ◌≤◌, List, ◌++◌, length, get_or, drop, codes, sym, ap, ◌∙◌, arith}
-use Rattle.captures.specs.Words.{dotted, pair_words}
-use Rattle.std.proofs.lemmas.List.{append_assoc, append-nil, drop_more, drop_all}
+use Rattle.std.proofs.Common.{◌≡◌, ℕ, ◌<◌, ◌≤◌, List, [], ◌∷◌, ◌++◌, codes, length, map, refl, ap, take, arith}
+use Rattle.std.proofs.lemmas.List.{take_all}
+use Rattle.std.proofs.lemmas.Grind.{common_steps}
+use Rattle.std.specs.List.{flat_map}
+use Rattle.captures.specs.Words.{after_words, dotted, pair_words}
+use Rattle.frames.specs.declared.pairs.Pair.{Pair}
 
-module _ (ms cs text : List ℕ) (k : ℕ) (same : length ms ≡ length cs) (kept : text ++ pair_words (drop k ms) (drop k cs) ≡ pair_words ms cs) where
-  pub one_more :
-      (more text' : List ℕ)
-      → k < length ms
-      → more ≡ text ++ codes " "
-      → text' ≡ more ++ dotted (get_or ms k 0) (get_or cs k 0)
-      → text' ++ pair_words (drop (k + 1) ms) (drop (k + 1) cs) ≡ pair_words ms cs
-  one_more more text' l e f =
-      let m = drop_more ms k 0 l in
-      let c = drop_more cs k 0 (omega arith) in
-      let word = codes " " ++ dotted (get_or ms k 0) (get_or cs k 0) in
-      let rest = pair_words (drop (k + 1) ms) (drop (k + 1) cs) in
-      let there : text' ≡ text ++ word = f ∙ (ap (λ t. t ++ dotted (get_or ms k 0) (get_or cs k 0)) e ∙ append_assoc text (codes " ") (dotted (get_or ms k 0) (get_or cs k 0))) in
-      ap (λ t. t ++ rest) there ∙ (append_assoc text word rest ∙ (rw (m, c) at kept))
+-- a pair behind a space
+abbrev pub pair_text : Pair → List ℕ
+pair_text p = codes " " ++ dotted p.machine p.count
 
-  pub all_there : length ms ≤ k → text ≡ pair_words ms cs
-  all_there over =
-      let m = drop_all k ms over in
-      sym (append-nil text) ∙ (rw m at kept)
+pub by_pair : (ps : List Pair) → pair_words (map (λ (p : Pair). p.machine) ps) (map (λ (p : Pair). p.count) ps) ≡ flat_map pair_text ps
+by_pair [] = refl
+by_pair (p ∷ ps) = ap (λ (t : List ℕ). pair_text p ++ t) (by_pair ps)
+
+-- all pairs, if there are any
+pub all_after :
+    (ps : List Pair) (n : ℕ) (machines counts : List ℕ)
+    → map (λ (p : Pair). p.machine) ps ≡ machines
+    → map (λ (p : Pair). p.count) ps ≡ counts
+    → 0 < length ps
+    → length ps ≤ n
+    → codes " after" ++ flat_map pair_text (take n ps) ≡ after_words machines counts
+all_after ps n machines counts m c some all =
+    rw (take_all n ps all, ← m, ← c) (grind (arith, common_steps, by_pair ps))

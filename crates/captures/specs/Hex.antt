@@ -19,12 +19,6 @@ nibble c = cond (nat_le c 57) (c - 48) (cond (nat_le c 70) (c - 55) (c - 87))
 abbrev pub byte_of : ℕ → ℕ → Option ℕ
 byte_of x y = cond (digit x && digit y) (Some (nibble x * 16 + nibble y)) None
 
--- the byte at the front of a text
-abbrev pub front_byte : List ℕ → Option ℕ
-front_byte [] = None
-front_byte (x ∷ []) = None
-front_byte (x ∷ y ∷ rest) = byte_of x y
-
 abbrev pub with_byte : ℕ → Result (List ℕ) ℕ → Result (List ℕ) ℕ
 with_byte byte (Ok bytes) = Ok (byte ∷ bytes)
 with_byte byte (Err column) = Err column
@@ -46,4 +40,4 @@ hex_line line = hex_from 1 line
 abbrev pub ReadsHex : List ℕ → Result (Vec ℕ Global) HexFault → Type 0
 ReadsHex line (Ok bytes) = hex_line line ≡ Ok (vec_items bytes)
 ReadsHex line (Err (Column column)) = hex_line line ≡ Err column
-ReadsHex line (Err Memory) = Unit {0}
+ReadsHex line (Err (Memory error)) = Unit {0}

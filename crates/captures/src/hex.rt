@@ -1,77 +1,59 @@
 // Bytes in hexadecimal.
-ghost use Rattle.captures.specs.Hex.{ReadsHex, blank, byte_of, digit, front_byte, nibble};
+ghost use Rattle.captures.specs.Hex.{ReadsHex, blank, byte_of};
 ghost use Rattle.captures.specs.declared.hex.HexFault.TheVariants.{Memory};
-ghost use Rattle.std.specs.Prelude.{◌≡◌, if◌then◌else◌, Some, None};
+ghost use Rattle.std.specs.Prelude.{◌≡◌, alloc_error};
 
-use std::alloc::{AllocFailed, Global};
+use std::alloc::{AllocError, AllocFailed, Global};
 
+#[derive(Clone, Copy)]
 pub enum HexFault {
     // the column, from 1, of the first character that is neither a blank nor begins two digits
     Column(usize),
-    Memory,
+    Memory(AllocError),
 }
 
 impl<T: Drop> From<AllocFailed<T>> for HexFault {
-    ghost from_gives = { λ _ r. r ≡ Memory };
+    ghost from_gives = { λ _ r. r ≡ Memory alloc_error };
 
-    fn from(_e: AllocFailed<T>) -> HexFault {
-        HexFault::Memory
+    fn from(error: AllocFailed<T>) -> HexFault {
+        HexFault::Memory(AllocError::from(error))
     }
 }
 
 pub(crate) fn is_blank(c: u8) -> bool
     ensures { result ≡ blank c }
 {
-    c == b' ' || c == b'\t' || c == b'\r'
-}
-
-fn digit_value(c: u8) -> Option<u8>
-    ensures { result ≡ (if digit c then Some (nibble c) else None) }
-{
-    match c {
-        b'0'..=b'9' => Some(c - b'0'),
-        b'A'..=b'F' => Some(c - b'A' + 10),
-        b'a'..=b'f' => Some(c - b'a' + 10),
-        _ => None,
-    }
+    matches!(c, b' ' | b'\t' | b'\r')
 }
 
 // The byte that two digits make.
+#[tactic(auto, using(crate::proofs::Hexes::two_digits))]
 fn byte_of(high: u8, low: u8) -> Option<u8>
     ensures { result ≡ byte_of high low }
 {
-    let h = digit_value(high)?;
-    let l = digit_value(low)?;
-    Some(h * 16 + l)
-}
-
-// The byte that the first two characters make.
-fn first_byte(text: &[u8]) -> Option<u8>
-    ensures { result ≡ front_byte text.now }
-{
-    match text {
-        [high, low, ..] => byte_of(*high, *low),
-        [_] => None,
-        [] => None,
-    }
+    let h = char::from(high).to_digit(16)?;
+    let l = char::from(low).to_digit(16)?;
+    Some((h * 16 + l) as u8)
 }
 
 // The bytes of a line, or where it is not hexadecimal.
+#[tactic(auto, using(crate::proofs::Hexes::passed_blank, crate::proofs::Hexes::passed_byte))]
 pub fn read_hex(heap: Global, line: &[u8]) -> Result<Vec<u8>, HexFault>
     ensures { ReadsHex line.now result }
 {
     let mut bytes = Vec::new(heap);
-    let mut at: usize = 0;
-    while at < line.len() {
-        if is_blank(line[at]) {
-            at += 1;
-        } else {
-            let Some(byte) = first_byte(&line[at..]) else {
-                return Err(HexFault::Column(at + 1));
-            };
-            bytes.push(byte)?;
-            at += 2;
+    let mut rest = line;
+    loop {
+        let column = line.len() - rest.len() + 1;
+        match rest {
+            [] => return Ok(bytes),
+            [first, behind @ ..] if is_blank(*first) => rest = behind,
+            [high, low, behind @ ..] => {
+                let byte = byte_of(*high, *low).ok_or(HexFault::Column(column))?;
+                bytes.push(byte)?;
+                rest = behind;
+            }
+            [_] => return Err(HexFault::Column(column)),
         }
     }
-    Ok(bytes)
 }

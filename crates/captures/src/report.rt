@@ -1,20 +1,14 @@
 // What a capture's lines say, and how many of each sort there are.
-ghost use Rattle.captures.specs.Reports.{bytes_outcome, bytes_words, line_outcome, line_words, unreadable_words};
+ghost use Rattle.captures.specs.Reports.{bytes_outcome, bytes_words, line_outcome, line_words};
 ghost use Rattle.std.specs.Prelude.{◌≡◌, IfOk, string_bytes};
 
 use crate::hex::{HexFault, read_hex};
 use crate::outcome::{Explained, Outcome};
-use crate::words::{frame_text, refusal_text};
+use crate::words::InWords;
 use frames::read::read;
 use std::alloc::{AllocError, Global};
 use values::fleet_size::FleetSize;
 use values::level::Level;
-
-fn unreadable_text(heap: Global, number: u64, column: usize) -> Result<String, AllocError>
-    ensures { IfOk result (λ t. string_bytes t ≡ unreadable_words number column) }
-{
-    format!(in heap; "line {number}: not hexadecimal at column {column}")
-}
 
 // What the bytes of a line say.
 fn explain_bytes(heap: Global, fleet: FleetSize, bytes: &[u8]) -> Result<Explained, AllocError>
@@ -24,11 +18,11 @@ fn explain_bytes(heap: Global, fleet: FleetSize, bytes: &[u8]) -> Result<Explain
     match read::<Level>(fleet, bytes) {
         Ok(frame) => Ok(Explained {
             outcome: Outcome::Good,
-            text: frame_text(heap, &frame)?,
+            text: InWords(&frame).to_string(heap)?,
         }),
         Err(fault) => Ok(Explained {
             outcome: Outcome::Refused,
-            text: refusal_text(heap, fault)?,
+            text: InWords(&fault).to_string(heap)?,
         }),
     }
 }
@@ -45,12 +39,12 @@ pub fn explain(
 {
     match read_hex(heap, line) {
         Ok(bytes) => explain_bytes(heap, fleet, bytes.as_slice()),
-        Err(HexFault::Column(column)) => {
-            Ok(Explained {
+        Err(fault) => match fault {
+            HexFault::Column(column) => Ok(Explained {
                 outcome: Outcome::Unreadable,
-                text: unreadable_text(heap, number, column)?,
-            })
-        }
-        Err(HexFault::Memory) => Err(AllocError),
+                text: format!(in heap; "line {number}: not hexadecimal at column {column}")?,
+            }),
+            HexFault::Memory(error) => Err(error),
+        },
     }
 }

@@ -1,9 +1,9 @@
 // Counting the lines of a capture.
 ghost use Rattle.captures.specs.Tallies.{counted, none_yet, tally_words};
-ghost use Rattle.std.specs.Prelude.{◌≡◌, IfOk, string_bytes};
+ghost use Rattle.std.specs.Prelude.{◌≡◌, Some};
 
 use crate::outcome::{Outcome, Tally};
-use std::alloc::{AllocError, Global};
+use std::fmt;
 
 impl Tally {
     pub fn new() -> Tally
@@ -26,14 +26,18 @@ impl Tally {
             Outcome::Unreadable => self.unreadable = self.unreadable.saturating_add(1),
         }
     }
+}
 
-    // The last line of a report.
-    pub fn text(&self, heap: Global) -> Result<String, AllocError>
-        ensures { IfOk result (λ t. string_bytes t ≡ tally_words self.now) }
-    {
-        let good = self.good;
-        let refused = self.refused;
-        let unreadable = self.unreadable;
-        format!(in heap; "good {good} refused {refused} unreadable {unreadable}")
+// The last line of a report.
+impl fmt::Display for Tally {
+    ghost output = { λ tally. Some (tally_words tally) };
+
+    fn fmt<W: fmt::Write>(&self, f: &mut fmt::Formatter<W>) -> fmt::Result {
+        let Tally {
+            good,
+            refused,
+            unreadable,
+        } = self;
+        write!(f, "good {good} refused {refused} unreadable {unreadable}")
     }
 }

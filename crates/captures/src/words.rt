@@ -1,153 +1,114 @@
 // Frames and refusals in words.
-ghost use Rattle.captures.specs.Words.{after_words, change_head_words, change_words, contribution_words, dotted, fill_words, frame_words, pair_words, refusal_words};
-ghost use Rattle.std.specs.Prelude.{◌≡◌, ◌++◌, length, IfOk, string_bytes, codes, decimal};
-ghost use Rattle.std.specs.Fmt.{signed_decimal};
+ghost use Rattle.captures.specs.Words.{after_words, change_words, contribution_words, dotted, fill_words, frame_words, refusal_words};
+ghost use Rattle.frames.specs.Clocks.{counts_of, machines_of};
+ghost use Rattle.std.specs.Option.{option_map};
+ghost use Rattle.std.specs.Prelude.{Some};
 
 use frames::fault::FrameFault;
-use frames::frame::{Change, Frame};
-use frames::pairs::Pairs;
-use std::alloc::{AllocError, Global};
+use frames::frame::{Change, Contribution, Fill, Forerunners, Frame};
+use std::fmt::{self, Display};
 use values::level::Level;
 
+// A frame, a part of one, or the refusal of bytes that are none: `{}` writes it in the words of a report.
+#[derive(Clone, Copy)]
+pub struct InWords<'a, T>(pub &'a T);
+
 // Two numbers with a point between, `2.5`: an author and a number, or a machine and a count.
-fn dotted_text(heap: Global, a: u8, b: u8) -> Result<String, AllocError>
-    ensures { IfOk result (λ t. string_bytes t ≡ dotted a b) }
-{
-    format!(in heap; "{a}.{b}")
-}
+#[derive(Clone, Copy)]
+struct Dotted(u8, u8);
 
-fn contribution_text(
-    heap: Global,
-    subject: &str,
-    ballot: u16,
-    round: u16,
-    value: &str,
-    sender: u8,
-) -> Result<String, AllocError>
-    ensures { IfOk result (λ t. string_bytes t ≡ contribution_words subject.now ballot round value.now sender) }
-{
-    format!(in heap; "contribution {subject} {ballot} round {round} value {value} from {sender}")
-}
+impl Display for Dotted {
+    ghost output = { λ x. Some (dotted x.0 x.1) };
 
-fn fill_text(
-    heap: Global,
-    subject: &str,
-    ballot: u16,
-    value: &str,
-    sender: u8,
-) -> Result<String, AllocError>
-    ensures { IfOk result (λ t. string_bytes t ≡ fill_words subject.now ballot value.now sender) }
-{
-    format!(in heap; "fill {subject} {ballot} value {value} from {sender}")
-}
-
-fn level_text(heap: Global, level: Level) -> Result<String, AllocError>
-    ensures { IfOk result (λ t. string_bytes t ≡ signed_decimal level.0) }
-{
-    let tenths = level.0;
-    format!(in heap; "{tenths}")
-}
-
-// The pairs, each behind a space.
-fn pairs_text(heap: Global, machines: &[u8], counts: &[u8]) -> Result<String, AllocError>
-    requires { length machines.now ≡ length counts.now }
-    ensures { IfOk result (λ t. string_bytes t ≡ pair_words machines.now counts.now) }
-{
-    let mut text = String::new(heap);
-    for k in 0..machines.len() {
-        let pair = dotted_text(heap, machines[k], counts[k])?;
-        text.push_str(" ")?;
-        text.push_str(pair.as_str())?;
+    fn fmt<W: fmt::Write>(&self, f: &mut fmt::Formatter<W>) -> fmt::Result {
+        write!(f, "{}.{}", self.0, self.1)
     }
-    Ok(text)
+}
+
+// What a ballot is about, a contribution to it or a fill, and the value of that as it is written.
+#[derive(Clone, Copy)]
+struct About<'a, T, D>(&'a str, &'a T, D);
+
+impl<V, D: Display> Display for About<'_, Contribution<V>, D> {
+    ghost output = { λ x. option_map (λ value. contribution_words x.0.now x.1.now.ballot x.1.now.round value x.1.now.sender) (D.output x.2) };
+
+    fn fmt<W: fmt::Write>(&self, f: &mut fmt::Formatter<W>) -> fmt::Result {
+        let About(subject, c, value) = self;
+        let (ballot, round, sender) = (c.ballot, c.round, c.sender);
+        write!(
+            f,
+            "contribution {subject} {ballot} round {round} value {value} from {sender}"
+        )
+    }
+}
+
+impl<V, D: Display> Display for About<'_, Fill<V>, D> {
+    ghost output = { λ x. option_map (λ value. fill_words x.0.now x.1.now.ballot value x.1.now.sender) (D.output x.2) };
+
+    fn fmt<W: fmt::Write>(&self, f: &mut fmt::Formatter<W>) -> fmt::Result {
+        let About(subject, fill, value) = self;
+        let (ballot, sender) = (fill.ballot, fill.sender);
+        write!(f, "fill {subject} {ballot} value {value} from {sender}")
+    }
 }
 
 // The pairs behind the word for them, or nothing where there are none.
-fn after_text(heap: Global, machines: &[u8], counts: &[u8]) -> Result<String, AllocError>
-    requires { length machines.now ≡ length counts.now }
-    ensures { IfOk result (λ t. string_bytes t ≡ after_words machines.now counts.now) }
-{
-    if machines.len() == 0 {
-        return Ok(String::new(heap));
+impl Display for InWords<'_, Forerunners> {
+    ghost output = { λ x. Some (after_words (machines_of 1 x.0.now.counts) (counts_of x.0.now.counts)) };
+
+    #[tactic(auto, using(std::proofs::lemmas::Grind::common_steps, crate::proofs::Worded::all_after))]
+    fn fmt<W: fmt::Write>(&self, f: &mut fmt::Formatter<W>) -> fmt::Result {
+        let pairs = self.0.pairs();
+        if pairs.is_empty() {
+            return Ok(());
+        }
+        f.write_str(" after")?;
+        for pair in pairs.iter() {
+            write!(f, " {}", Dotted(pair.machine, pair.count))?;
+        }
+        Ok(())
     }
-    let pairs = pairs_text(heap, machines, counts)?;
-    format!(in heap; " after{pairs}")
 }
 
-fn change_head_text(heap: Global, change: &Change) -> Result<String, AllocError>
-    ensures { IfOk result (λ t. string_bytes t ≡ change_head_words change.now) }
-{
-    let mark = dotted_text(heap, change.author, change.number)?;
-    let setting = change.setting;
-    let level = change.level;
-    format!(in heap; "change {mark} setting {setting} level {level}")
+impl Display for InWords<'_, Change> {
+    ghost output = { λ x. Some (change_words x.0.now) };
+
+    fn fmt<W: fmt::Write>(&self, f: &mut fmt::Formatter<W>) -> fmt::Result {
+        let change = self.0;
+        let (setting, level) = (change.setting, change.level);
+        let mark = Dotted(change.author, change.number);
+        let after = InWords(&change.forerunners);
+        write!(f, "change {mark} setting {setting} level {level}{after}")
+    }
 }
 
-fn change_text(heap: Global, change: &Change) -> Result<String, AllocError>
-    ensures { IfOk result (λ t. string_bytes t ≡ change_words change.now) }
-{
-    let Pairs {
-        len,
-        machines,
-        counts,
-    } = change.forerunners.pairs();
-    let after = after_text(heap, &machines[0..len], &counts[0..len])?;
-    let head = change_head_text(heap, change)?;
-    format!(in heap; "{head}{after}")
-}
+impl Display for InWords<'_, Frame<Level>> {
+    ghost output = { λ x. Some (frame_words x.0.now) };
 
-// What a frame says.
-pub fn frame_text(heap: Global, frame: &Frame<Level>) -> Result<String, AllocError>
-    ensures { IfOk result (λ t. string_bytes t ≡ frame_words frame.now) }
-{
-    match frame {
-        Frame::Change(change) => change_text(heap, change),
-        Frame::PlaceContribution(c) => {
-            let value = dotted_text(heap, c.value.author, c.value.number)?;
-            contribution_text(heap, "place", c.ballot, c.round, value.as_str(), c.sender)
-        }
-        Frame::PlaceFill(f) => {
-            let value = dotted_text(heap, f.value.author, f.value.number)?;
-            fill_text(heap, "place", f.ballot, value.as_str(), f.sender)
-        }
-        Frame::QuestionContribution(c) => {
-            let value = level_text(heap, c.value)?;
-            contribution_text(
-                heap,
-                "question",
-                c.ballot,
-                c.round,
-                value.as_str(),
-                c.sender,
-            )
-        }
-        Frame::QuestionFill(f) => {
-            let value = level_text(heap, f.value)?;
-            fill_text(heap, "question", f.ballot, value.as_str(), f.sender)
+    fn fmt<W: fmt::Write>(&self, f: &mut fmt::Formatter<W>) -> fmt::Result {
+        match self.0 {
+            Frame::Change(change) => InWords(change).fmt(f),
+            Frame::PlaceContribution(c) => {
+                About("place", c, Dotted(c.value.author, c.value.number)).fmt(f)
+            }
+            Frame::PlaceFill(fill) => {
+                About("place", fill, Dotted(fill.value.author, fill.value.number)).fmt(f)
+            }
+            Frame::QuestionContribution(c) => About("question", c, c.value.0).fmt(f),
+            Frame::QuestionFill(fill) => About("question", fill, fill.value.0).fmt(f),
         }
     }
 }
 
-fn refused_text(heap: Global, number: u8) -> Result<String, AllocError>
-    ensures { IfOk result (λ t. string_bytes t ≡ codes "refused " ++ decimal number) }
-{
-    format!(in heap; "refused {number}")
-}
+impl Display for InWords<'_, FrameFault> {
+    ghost output = { λ x. Some (refusal_words x.0.now) };
 
-fn refused_field_text(heap: Global, number: u8, offset: u8) -> Result<String, AllocError>
-    ensures { IfOk result (λ t. string_bytes t ≡ codes "refused " ++ (decimal number ++ (codes " offset " ++ decimal offset))) }
-{
-    format!(in heap; "refused {number} offset {offset}")
-}
-
-// Why bytes are no frame.
-pub fn refusal_text(heap: Global, fault: FrameFault) -> Result<String, AllocError>
-    ensures { IfOk result (λ t. string_bytes t ≡ refusal_words fault) }
-{
-    let number = fault.number();
-    match fault {
-        FrameFault::Kind => refused_text(heap, number),
-        FrameFault::Length => refused_text(heap, number),
-        FrameFault::Field(offset) => refused_field_text(heap, number, offset),
+    fn fmt<W: fmt::Write>(&self, f: &mut fmt::Formatter<W>) -> fmt::Result {
+        let fault = *self.0;
+        let number = u8::from(fault);
+        match fault {
+            FrameFault::Kind | FrameFault::Length => write!(f, "refused {number}"),
+            FrameFault::Field(offset) => write!(f, "refused {number} offset {offset}"),
+        }
     }
 }

@@ -8,10 +8,7 @@ mod first_lines {
 
     // 0 where the line says no size.
     fn size_or_0(line: &str) -> u8 {
-        match fleet_size(line.as_bytes()) {
-            Some(size) => size.machines,
-            None => 0,
-        }
+        fleet_size(line.as_bytes()).map_or(0, |size| size.machines)
     }
 
     #[test]

@@ -2,15 +2,11 @@
 // A line of a table is the bytes in hexadecimal, what there is to say about them, and what the line tests, with tabs between.
 #![tactic(auto)]
 
-use anyhow::anyhow;
+use anyhow::Context;
+use captures::outcome::Explained;
 use captures::report::explain;
 use std::fs;
 use values::fleet_size::FleetSize;
-
-fn tell_wrong(rt: &HostRuntime, number: u64, expected: &str, text: &str) -> anyhow::Result<()> {
-    println!(rt; "line {number}: expected '{expected}', got '{text}'")?;
-    Ok(())
-}
 
 // Whether a table's line is right; says so where it is not.
 fn is_right(rt: &HostRuntime, fleet: FleetSize, number: u64, line: &str) -> anyhow::Result<bool> {
@@ -19,39 +15,29 @@ fn is_right(rt: &HostRuntime, fleet: FleetSize, number: u64, line: &str) -> anyh
         println!(rt; "line {number} has no tab")?;
         return Ok(false);
     };
-    let explained = explain(rt.alloc(), fleet, number, hex.as_bytes())?;
-    let text = explained.text.as_str();
-    if text == expected {
-        return Ok(true);
+    let Explained { text, .. } = explain(rt.alloc(), fleet, number, hex.as_bytes())?;
+    let right = text.as_str() == expected;
+    if !right {
+        println!(rt; "line {number}: expected '{expected}', got '{text}'")?;
     }
-    tell_wrong(rt, number, expected, text)?;
-    Ok(false)
+    Ok(right)
 }
 
 fn check_table(rt: &HostRuntime, machines: u8, path: &str) -> anyhow::Result<()> {
-    let Some(fleet) = FleetSize::new(machines) else {
-        return Err(anyhow!("no such fleet"));
-    };
+    let fleet = FleetSize::new(machines).context("no such fleet")?;
     let table = fs::read_to_string(rt, path)?;
-    let mut number: u64 = 0;
-    let mut right: u64 = 0;
-    for line in table.lines() {
-        number = number.saturating_add(1);
-        if is_right(rt, fleet, number, line)? {
-            right = right.saturating_add(1);
-        }
-    }
-    println!(rt; "{path}: {right} of {number} right")?;
+    let lines: Vec<bool> = (1u64..)
+        .zip(table.lines())
+        .map(|(number, line)| is_right(rt, fleet, number, line))
+        .try_collect(rt.alloc())?;
+    let right = lines.iter().filter(|right| **right).count();
+    println!(rt; "{path}: {right} of {} right", lines.len())?;
     Ok(())
 }
 
-fn check_tables(rt: &HostRuntime) -> anyhow::Result<()> {
-    check_table(rt, 1, "n1.tsv")?;
-    check_table(rt, 2, "n2.tsv")?;
-    check_table(rt, 3, "n3.tsv")?;
-    check_table(rt, 4, "n4.tsv")
-}
-
 fn main(rt: HostRuntime) -> anyhow::Result<()> {
-    check_tables(&rt)
+    for (machines, path) in [(1, "n1.tsv"), (2, "n2.tsv"), (3, "n3.tsv"), (4, "n4.tsv")] {
+        check_table(&rt, machines, path)?;
+    }
+    Ok(())
 }

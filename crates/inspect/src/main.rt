@@ -1,22 +1,14 @@
 // inspect: says in words what the frames of a radio capture say, or why they are none.
 #![tactic(auto)]
 
-use anyhow::anyhow;
+use anyhow::{anyhow, bail};
 use captures::first_line::fleet_size;
-use captures::outcome::Tally;
+use captures::outcome::{Explained, Tally};
 use captures::report::explain;
 use std::env;
-use std::io::{BufRead, BufReader};
+use std::io::{BufRead, BufReader, Split};
 use std::process::ExitCode;
 use values::fleet_size::FleetSize;
-
-// A line without the newline at its end.
-fn without_newline(line: &[u8]) -> &[u8] {
-    match line {
-        [front @ .., b'\n'] => front,
-        all => all,
-    }
-}
 
 fn usage(rt: &HostRuntime) -> anyhow::Result<()> {
     println!(rt; "inspect: explains the frames of a radio capture, read from standard input")?;
@@ -32,43 +24,30 @@ fn usage(rt: &HostRuntime) -> anyhow::Result<()> {
     Ok(())
 }
 
-// The lines after the first, one at a time, so that a capture can be followed while it is made.
-fn explain_lines<B: BufRead>(
+// Says each line behind the first as it comes, so that a capture can be followed while it is made.
+fn explain_lines<B: BufRead + Drop>(
     rt: &HostRuntime,
     fleet: FleetSize,
-    input: &mut B,
+    lines: Split<B>,
 ) -> anyhow::Result<()> {
-    let heap = rt.alloc();
-    let mut line = Vec::new(heap);
     let mut tally = Tally::new();
-    for number in 2..u64::MAX {
-        line.clear();
-        if input.read_until(b'\n', &mut line)? == 0 {
-            break;
-        }
-        let explained = explain(heap, fleet, number, without_newline(line.as_slice()))?;
-        tally.count(explained.outcome);
-        let text = explained.text.as_str();
+    for (number, line) in (2u64..).zip(lines) {
+        let Explained { outcome, text } = explain(rt.alloc(), fleet, number, line?.as_slice())?;
+        tally.count(outcome);
         println!(rt; "{text}")?;
     }
-    let counts = tally.text(heap)?;
-    println!(rt; "{counts}")?;
+    println!(rt; "{tally}")?;
     Ok(())
 }
 
 fn inspect(rt: &HostRuntime) -> anyhow::Result<()> {
-    let mut input = BufReader::new(rt.alloc(), rt.stdin())?;
-    let mut first = Vec::new(rt.alloc());
-    input.read_until(b'\n', &mut first)?;
-    match fleet_size(without_newline(first.as_slice())) {
-        Some(fleet) => explain_lines(rt, fleet, &mut input),
-        None => {
-            println!(rt; "refused 1")?;
-            Err(anyhow!(
-                "line 1: the number of machines in the fleet is wanted, one digit from 1 to 9"
-            ))
-        }
-    }
+    let mut lines = BufReader::new(rt.alloc(), rt.stdin())?.split(rt.alloc(), b'\n');
+    let first = lines.next().transpose()?;
+    let Some(fleet) = first.and_then(|line| fleet_size(line.as_slice())) else {
+        println!(rt; "refused 1")?;
+        bail!("line 1: the number of machines in the fleet is wanted, one digit from 1 to 9");
+    };
+    explain_lines(rt, fleet, lines)
 }
 
 fn run(rt: &HostRuntime) -> anyhow::Result<()> {
@@ -76,13 +55,10 @@ fn run(rt: &HostRuntime) -> anyhow::Result<()> {
     let _program = words.next();
     match words.next() {
         None => inspect(rt),
-        Some(word) => {
-            if word.as_str() == "--help" || word.as_str() == "-h" {
-                usage(rt)
-            } else {
-                Err(anyhow!("no words but --help are taken; the capture comes on standard input"))
-            }
-        }
+        Some(word) => match word.as_str() {
+            "--help" | "-h" => usage(rt),
+            _ => Err(anyhow!("no words but --help are taken; the capture comes on standard input")),
+        },
     }
 }
 
