@@ -1,4 +1,2 @@
-pub mod Chains
 pub mod Checks
-pub mod Drums
 pub mod Kept
