@@ -7,9 +7,9 @@ use std::test::Fail;
 
 #[test]
 fn faults_have_their_numbers(rt: HostRuntime) {
-    assert_eq!(rt; JournalFault::NotARow.number(), 19);
-    assert_eq!(rt; JournalFault::NoSuchRow.number(), 20);
-    assert_eq!(rt; JournalFault::NoFreeRow.number(), 21);
+    assert_eq!(rt; u8::from(JournalFault::NotARow), 19);
+    assert_eq!(rt; u8::from(JournalFault::NoSuchRow), 20);
+    assert_eq!(rt; u8::from(JournalFault::NoFreeRow), 21);
 }
 
 #[test]

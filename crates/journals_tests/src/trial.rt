@@ -17,14 +17,14 @@ pub(crate) fn row(k: u32) -> [u8; 32] {
 pub(crate) fn append<J: Journal>(journal: &mut J, bytes: &[u8]) -> Result<u32, u8> {
     match journal.append(bytes) {
         Ok(length) => Ok(length),
-        Err(fault) => Err(fault.number()),
+        Err(fault) => Err(u8::from(fault)),
     }
 }
 
 pub(crate) fn read<J: Journal>(journal: &J, k: u32, target: &mut [u8]) -> Result<(), u8> {
     match journal.read(k, target) {
         Ok(()) => Ok(()),
-        Err(fault) => Err(fault.number()),
+        Err(fault) => Err(u8::from(fault)),
     }
 }
 
