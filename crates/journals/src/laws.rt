@@ -7,5 +7,4 @@ pub fn rows_kept_stands()
     ensures free { FreeRowsFall }
     ensures size { SizeStays }
     ensures back { ReadBack }
-{
-}
+{}
