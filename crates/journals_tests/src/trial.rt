@@ -1,6 +1,5 @@
 // Trials that any journal can be put to. They borrow it, so that the test that owns it can hand it back; one that finds something
 // wrong ends the test.
-use journals::fault::JournalFault;
 use journals::journal::Journal;
 use std::process::Abort;
 use std::test::Fail;
@@ -15,17 +14,11 @@ pub(crate) fn row(k: u32) -> [u8; 32] {
 
 // The length that append answered, or the number of the refusal.
 pub(crate) fn append<J: Journal>(journal: &mut J, bytes: &[u8]) -> Result<u32, u8> {
-    match journal.append(bytes) {
-        Ok(length) => Ok(length),
-        Err(fault) => Err(u8::from(fault)),
-    }
+    journal.append(bytes).map_err(u8::from)
 }
 
 pub(crate) fn read<J: Journal>(journal: &J, k: u32, target: &mut [u8]) -> Result<(), u8> {
-    match journal.read(k, target) {
-        Ok(()) => Ok(()),
-        Err(fault) => Err(u8::from(fault)),
-    }
+    journal.read(k, target).map_err(u8::from)
 }
 
 pub(crate) fn counts<J: Journal>(journal: &J) -> (u32, u32) {
