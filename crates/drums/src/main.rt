@@ -1,16 +1,16 @@
 // drums: plays calls on a journal, a chain of two drums, and prints what they answer.
 #![tactic(auto)]
 
-use anyhow::anyhow;
+use anyhow::{Context, anyhow, bail, ensure};
 use captures::hex::{HexFault, read_hex};
 use journals::chain::Chain;
 use journals::drum::Drum;
-use journals::fault::JournalFault;
 use journals::journal::{Journal, ROW_BYTES};
-use std::env;
+use std::alloc::Global;
 use std::io::{BufRead, BufReader};
 use std::process::ExitCode;
 use std::str::SplitWhitespace;
+use std::{env, io};
 
 // A target of a read can have so many bytes.
 const MOST_TARGET: usize = 64;
@@ -30,37 +30,40 @@ Standard input has one call to a line:
 At the end it prints how many rows each of the two drums has.";
 
 // The bytes that words spell, in hexadecimal.
-fn bytes_of(rt: &HostRuntime, words: SplitWhitespace) -> anyhow::Result<Vec<u8>> {
-    let mut bytes = Vec::new(rt.alloc());
+fn bytes_of(alloc: Global, words: SplitWhitespace) -> anyhow::Result<Vec<u8>> {
+    let mut bytes = Vec::new(alloc);
     for word in words {
-        match read_hex(rt.alloc(), word.as_bytes()) {
-            Ok(part) => bytes.extend_from_slice(part.as_slice())?,
-            Err(HexFault::Column(_)) => return Err(anyhow!("its bytes are not hexadecimal")),
-            Err(HexFault::Memory) => return Err(anyhow!("there is no memory for its bytes")),
-        }
+        let part = read_hex(alloc, word.as_bytes()).map_err(|fault| match fault {
+            HexFault::Column(_) => anyhow!("its bytes are not hexadecimal"),
+            HexFault::Memory => anyhow!("there is no memory for its bytes"),
+        })?;
+        bytes.extend_from_slice(part.as_slice())?;
     }
     Ok(bytes)
 }
 
-// Appends the bytes that words spell, with zeros behind them up to so many.
-fn play_append<J: Journal>(
-    rt: &HostRuntime,
-    journal: &mut J,
-    words: SplitWhitespace,
-    least: usize,
-) -> anyhow::Result<()> {
-    let mut bytes = bytes_of(rt, words)?;
-    for _ in bytes.len()..least {
-        bytes.push(0)?;
-    }
-    match journal.append(bytes.as_slice()) {
-        Ok(length) => println!(rt; "append: row {length}")?,
-        Err(fault) => {
-            let number = fault.number();
-            println!(rt; "append: refused {number}")?;
-        }
-    }
+fn number_of(word: &str) -> anyhow::Result<u32> {
+    word.parse::<u32>()
+        .context("a number from 0 to 4294967295 is wanted")
+}
+
+fn nothing_more(words: SplitWhitespace) -> anyhow::Result<()> {
+    let mut words = words;
+    ensure!(words.next().is_none(), "there are words too many");
     Ok(())
+}
+
+// The words after read: a row number and, where there is a second, the size of the target.
+fn row_and_size(words: SplitWhitespace) -> anyhow::Result<(u32, usize)> {
+    let mut words = words;
+    let row = words.next().context("read wants the number of a row")?;
+    let k = number_of(row)?;
+    let Some(size) = words.next() else {
+        return Ok((k, ROW_BYTES));
+    };
+    let size = number_of(size)? as usize;
+    nothing_more(words)?;
+    Ok((k, size))
 }
 
 fn print_row(rt: &HostRuntime, k: u32, bytes: &[u8]) -> anyhow::Result<()> {
@@ -72,106 +75,79 @@ fn print_row(rt: &HostRuntime, k: u32, bytes: &[u8]) -> anyhow::Result<()> {
     Ok(())
 }
 
-fn read_into<J: Journal>(rt: &HostRuntime, journal: &J, k: u32, size: usize) -> anyhow::Result<()> {
-    let mut space = [0xFFu8; MOST_TARGET];
-    if size > MOST_TARGET {
-        return Err(anyhow!("it reads into more than 64 bytes"));
-    }
-    let target = &mut space[0..size];
-    match journal.read(k, target) {
-        Ok(()) => print_row(rt, k, target)?,
-        Err(fault) => {
-            let number = fault.number();
-            println!(rt; "read {k}: refused {number}")?;
-        }
-    }
-    Ok(())
-}
-
-fn number_of(word: &str) -> anyhow::Result<u32> {
-    match word.parse::<u32>() {
-        Ok(number) => Ok(number),
-        Err(_) => Err(anyhow!("a number from 0 to 4294967295 is wanted")),
-    }
-}
-
-// The words after read: a row number and, where there is a second, the size of the target.
-fn play_read<J: Journal>(
-    rt: &HostRuntime,
-    journal: &J,
-    words: SplitWhitespace,
-) -> anyhow::Result<()> {
-    let mut words = words;
-    let Some(row) = words.next() else {
-        return Err(anyhow!("read wants the number of a row"));
-    };
-    let k = number_of(row)?;
-    let Some(size) = words.next() else {
-        return read_into(rt, journal, k, ROW_BYTES);
-    };
-    let size = number_of(size)?;
-    nothing_more(words)?;
-    read_into(rt, journal, k, size as usize)
-}
-
-fn nothing_more(words: SplitWhitespace) -> anyhow::Result<()> {
-    let mut words = words;
-    match words.next() {
-        None => Ok(()),
-        Some(_) => Err(anyhow!("there are words too many")),
-    }
-}
-
 fn tell(rt: &HostRuntime, name: &str, number: u32, words: SplitWhitespace) -> anyhow::Result<()> {
     nothing_more(words)?;
     println!(rt; "{name}: {number}")?;
     Ok(())
 }
 
-fn play_line<J: Journal>(rt: &HostRuntime, journal: &mut J, line: &str) -> anyhow::Result<()> {
-    let mut words = line.split_whitespace();
-    let Some(call) = words.next() else {
-        println!(rt; "")?;
-        return Ok(());
-    };
-    if line.starts_with('#') {
-        println!(rt; "{line}")?;
-        Ok(())
-    } else if call == "append" {
-        play_append(rt, journal, words, 0)
-    } else if call == "row" {
-        play_append(rt, journal, words, ROW_BYTES)
-    } else if call == "read" {
-        play_read(rt, journal, words)
-    } else if call == "length" {
-        tell(rt, call, journal.length(), words)
-    } else if call == "free" {
-        tell(rt, call, journal.free(), words)
-    } else {
-        Err(anyhow!("append, row, read, length, free or # is wanted"))
-    }
+// Plays calls on a journal, and prints what they answer.
+#[derive(Drop)]
+struct Player<'a, J> {
+    rt: &'a HostRuntime,
+    journal: &'a mut J,
 }
 
-// Calls are answered as they come; an error names the line.
-fn play<J: Journal>(rt: &HostRuntime, journal: &mut J) -> anyhow::Result<()> {
-    let mut number: u64 = 0;
-    for line in BufReader::new(rt.alloc(), rt.stdin())?.lines(rt.alloc()) {
-        number = number.saturating_add(1);
-        let played = match line {
-            Ok(line) => play_line(rt, journal, line.as_str()),
-            Err(error) => Err(error.into()),
-        };
-        if let Err(error) = played {
-            return Err(anyhow!("line {number}: {error}"));
+impl<J: Journal> Player<'_, J> {
+    // Appends the bytes that words spell, with zeros behind them up to so many.
+    fn append(&mut self, words: SplitWhitespace, least: usize) -> anyhow::Result<()> {
+        let mut bytes = bytes_of(self.rt.alloc(), words)?;
+        bytes.resize(bytes.len().max(least), 0)?;
+        match self.journal.append(bytes.as_slice()) {
+            Ok(length) => println!(self.rt; "append: row {length}")?,
+            Err(fault) => println!(self.rt; "append: {fault}")?,
         }
+        Ok(())
     }
-    Ok(())
+
+    fn read(&self, words: SplitWhitespace) -> anyhow::Result<()> {
+        let (k, size) = row_and_size(words)?;
+        let mut space = [0xFFu8; MOST_TARGET];
+        let target = space
+            .get_mut(..size)
+            .context("it reads into more than 64 bytes")?;
+        match self.journal.read(k, target) {
+            Ok(()) => print_row(self.rt, k, target)?,
+            Err(fault) => println!(self.rt; "read {k}: {fault}")?,
+        }
+        Ok(())
+    }
+
+    fn line(&mut self, line: io::Result<String>) -> anyhow::Result<()> {
+        let line = line?;
+        let mut words = line.split_whitespace();
+        let Some(call) = words.next() else {
+            println!(self.rt; "")?;
+            return Ok(());
+        };
+        match call {
+            _ if line.starts_with('#') => println!(self.rt; "{line}")?,
+            "append" => self.append(words, 0)?,
+            "row" => self.append(words, ROW_BYTES)?,
+            "read" => self.read(words)?,
+            "length" => tell(self.rt, call, self.journal.length(), words)?,
+            "free" => tell(self.rt, call, self.journal.free(), words)?,
+            _ => bail!("append, row, read, length, free or # is wanted"),
+        }
+        Ok(())
+    }
+
+    // Calls are answered as they come; an error names the line.
+    fn play(&mut self) -> anyhow::Result<()> {
+        let lines = BufReader::new(self.rt.alloc(), self.rt.stdin())?.lines(self.rt.alloc());
+        for (number, line) in (1..=u64::MAX).zip(lines) {
+            self.line(line)
+                .map_err(|error| anyhow!("line {number}: {error}"))?;
+        }
+        Ok(())
+    }
 }
 
 // The chain is taken apart whatever the calls were, so that both drums come back.
 fn play_on_two_drums(rt: &HostRuntime) -> anyhow::Result<()> {
     let mut chain = Chain::new(Drum::new(), Drum::new());
-    let played = play(rt, &mut chain);
+    let journal = &mut chain;
+    let played = Player { rt, journal }.play();
     let (first, second) = chain.into_parts();
     let rows = first.into_table().used;
     let more = second.into_table().used;
@@ -185,14 +161,13 @@ fn run(rt: &HostRuntime) -> anyhow::Result<()> {
     let _program = words.next();
     match words.next() {
         None => play_on_two_drums(rt),
-        Some(word) => {
-            if word.as_str() == "--help" || word.as_str() == "-h" {
+        Some(word) => match word.as_str() {
+            "--help" | "-h" => {
                 println!(rt; "{USAGE}")?;
                 Ok(())
-            } else {
-                Err(anyhow!("no words but --help are taken; the calls come on standard input"))
             }
-        }
+            _ => Err(anyhow!("no words but --help are taken; the calls come on standard input")),
+        },
     }
 }
 

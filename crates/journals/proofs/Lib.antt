@@ -1,4 +1,1 @@
-pub mod Chains
-pub mod Checks
-pub mod Drums
 pub mod Kept

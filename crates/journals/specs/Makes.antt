@@ -1,8 +1,6 @@
 -- What a drum and a chain mean.
 use Rattle.std.specs.Prelude.{ℕ, ◌+◌, ◌-◌, Bool, cond, not, ◌&&◌, List, [], ◌++◌, length, take, ◌==◌, nat_le, slice_set}
 use Rattle.journals.specs.Journals.{Meaning, most_rows}
-use Rattle.journals.specs.declared.chain.Side.{Side}
-use Rattle.journals.specs.declared.chain.Side.TheVariants.{First, Second}
 use Rattle.journals.specs.declared.table.Table.{Table}
 
 -- a journal without rows that has so many free ones
@@ -38,7 +36,3 @@ chained first second = cond (nat_le (both first second) most_rows) (joined first
 -- a row that is appended to a chain goes to the first journal while the second is empty and the first has a free row, else to the second
 abbrev pub goes_first : Meaning → Meaning → Bool
 goes_first first second = length second.rows == 0 && not (first.free == 0)
-
--- row k of a chain stands in the first journal, or in the second under a number of its own, by the length of the first
-abbrev pub side : ℕ → ℕ → Side
-side k len = cond (nat_le k len) (First k) (Second (k - len))

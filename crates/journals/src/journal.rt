@@ -65,7 +65,7 @@ pub fn check_read(length: u32, k: u32, target: &[u8]) -> Result<(), JournalFault
     if target.len() != ROW_BYTES {
         return Err(JournalFault::NotARow);
     }
-    if k < 1 || k > length {
+    if !(1..=length).contains(&k) {
         return Err(JournalFault::NoSuchRow);
     }
     Ok(())

@@ -2,11 +2,9 @@
 ghost use Rattle.journals.specs.Runs.{FreeRowsFall, NothingLost, ReadBack, SizeStays};
 
 // What a run of appends keeps and adds.
-pub fn rows_kept_stands() -> u8
+pub fn rows_kept_stands()
     ensures rows { NothingLost }
     ensures free { FreeRowsFall }
     ensures size { SizeStays }
     ensures back { ReadBack }
-{
-    0
-}
+{}

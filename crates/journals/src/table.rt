@@ -8,7 +8,7 @@ use crate::journal::ROW_BYTES;
 // A drum has so many rows.
 pub const DRUM_ROWS: u32 = 48;
 
-// The first rows are used, the others mean nothing.
+// The first rows are used, the others mean nothing. The count stands beside the rows: this is all the memory that a drum has, without a heap.
 #[derive(Drop)]
 pub struct Table {
     pub rows: [[u8; ROW_BYTES]; DRUM_ROWS as usize],

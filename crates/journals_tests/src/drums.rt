@@ -1,5 +1,5 @@
 // The drum.
-use crate::trial::{append, counts, fill_and_refuse, refuse, row};
+use crate::trial::{append, counts, fill_and_refuse, refuse, row, rows_after};
 use journals::drum::Drum;
 use journals::fault::JournalFault;
 use std::process::Abort;
@@ -7,9 +7,9 @@ use std::test::Fail;
 
 #[test]
 fn faults_have_their_numbers(rt: HostRuntime) {
-    assert_eq!(rt; JournalFault::NotARow.number(), 19);
-    assert_eq!(rt; JournalFault::NoSuchRow.number(), 20);
-    assert_eq!(rt; JournalFault::NoFreeRow.number(), 21);
+    assert_eq!(rt; u8::from(JournalFault::NotARow), 19);
+    assert_eq!(rt; u8::from(JournalFault::NoSuchRow), 20);
+    assert_eq!(rt; u8::from(JournalFault::NoFreeRow), 21);
 }
 
 #[test]
@@ -34,10 +34,7 @@ fn refuse_at_0_and_1(rt: &impl Abort, drum: &mut Drum) -> Result<(), Fail> {
 
 #[test]
 fn a_drum_with_room_refuses_what_is_no_row(rt: HostRuntime) -> Result<(), Fail> {
-    let mut drum = Drum::new();
-    let refused = refuse_at_0_and_1(&rt, &mut drum);
-    let table = drum.into_table();
-    refused?;
-    assert_eq!(rt; table.used, 1);
+    let used = rows_after(Drum::new(), |drum| refuse_at_0_and_1(&rt, drum))?;
+    assert_eq!(rt; used, 1);
     Ok(())
 }

@@ -1,9 +1,57 @@
-// Trials that any journal can be put to. They borrow it, so that the test that owns it can hand it back; one that finds something
+// Trials that any journal can be put to. They borrow it, so that it can be ended whatever came of them; one that finds something
 // wrong ends the test.
-use journals::fault::JournalFault;
+use crate::copies::Copies;
+use journals::chain::Chain;
+use journals::drum::Drum;
 use journals::journal::Journal;
 use std::process::Abort;
 use std::test::Fail;
+
+// A journal that a test ends, and how many rows each of its parts has then.
+pub(crate) trait IntoRows: Journal {
+    type Rows: Drop;
+
+    fn into_rows(self) -> Self::Rows;
+}
+
+impl IntoRows for Drum {
+    type Rows = u32;
+
+    fn into_rows(self) -> u32 {
+        self.into_table().used
+    }
+}
+
+impl IntoRows for Copies {
+    type Rows = u32;
+
+    fn into_rows(self) -> u32 {
+        self.end()
+    }
+}
+
+impl<A: IntoRows, B: IntoRows> IntoRows for Chain<A, B> {
+    type Rows = (A::Rows, B::Rows);
+
+    fn into_rows(self) -> (A::Rows, B::Rows) {
+        let (first, second) = self.into_parts();
+        (first.into_rows(), second.into_rows())
+    }
+}
+
+// Puts a journal to a trial, and ends it whatever came of that.
+pub(crate) fn rows_after<J: IntoRows, F: FnOnce(&mut J) -> Result<(), Fail>>(
+    journal: J,
+    trial: F,
+) -> Result<J::Rows, Fail>
+    requires { F.IsAlwaysCallable trial }
+{
+    let mut journal = journal;
+    let tried = trial(&mut journal);
+    let rows = journal.into_rows();
+    tried?;
+    Ok(rows)
+}
 
 // A row that no other number below 65,536 has: its number stands in the second byte and in the last.
 pub(crate) fn row(k: u32) -> [u8; 32] {
@@ -15,17 +63,18 @@ pub(crate) fn row(k: u32) -> [u8; 32] {
 
 // The length that append answered, or the number of the refusal.
 pub(crate) fn append<J: Journal>(journal: &mut J, bytes: &[u8]) -> Result<u32, u8> {
-    match journal.append(bytes) {
-        Ok(length) => Ok(length),
-        Err(fault) => Err(fault.number()),
-    }
+    journal.append(bytes).map_err(u8::from)
 }
 
 pub(crate) fn read<J: Journal>(journal: &J, k: u32, target: &mut [u8]) -> Result<(), u8> {
-    match journal.read(k, target) {
-        Ok(()) => Ok(()),
-        Err(fault) => Err(fault.number()),
-    }
+    journal.read(k, target).map_err(u8::from)
+}
+
+// Row k, or the number of the refusal.
+pub(crate) fn row_at<J: Journal>(journal: &J, k: u32) -> Result<[u8; 32], u8> {
+    let mut target = [0u8; 32];
+    read(journal, k, &mut target)?;
+    Ok(target)
 }
 
 pub(crate) fn counts<J: Journal>(journal: &J) -> (u32, u32) {
@@ -41,9 +90,7 @@ pub(crate) fn fill<J: Journal>(rt: &impl Abort, journal: &mut J, rows: u32) -> R
     }
     assert_eq!(rt; append(journal, &row(rows)), Err(21));
     for k in 1..=rows {
-        let mut target = [0u8; 32];
-        assert_eq!(rt; read(journal, k, &mut target), Ok(()));
-        assert_eq!(rt; target, row(k));
+        assert_eq!(rt; row_at(journal, k), Ok(row(k)));
     }
     assert_eq!(rt; counts(journal), (rows, 0));
     Ok(())
