@@ -6,6 +6,8 @@ use captures::hex::{HexFault, read_hex};
 use journals::chain::Chain;
 use journals::drum::Drum;
 use journals::journal::{Journal, ROW_BYTES};
+use programs::ends::end;
+use programs::words::Request;
 use std::alloc::Global;
 use std::io::{BufRead, BufReader};
 use std::process::ExitCode;
@@ -35,7 +37,7 @@ fn bytes_of(alloc: Global, words: SplitWhitespace) -> anyhow::Result<Vec<u8>> {
     for word in words {
         let part = read_hex(alloc, word.as_bytes()).map_err(|fault| match fault {
             HexFault::Column(_) => anyhow!("its bytes are not hexadecimal"),
-            HexFault::Memory => anyhow!("there is no memory for its bytes"),
+            HexFault::Memory(_) => anyhow!("there is no memory for its bytes"),
         })?;
         bytes.extend_from_slice(part.as_slice())?;
     }
@@ -157,27 +159,16 @@ fn play_on_two_drums(rt: &HostRuntime) -> anyhow::Result<()> {
 }
 
 fn run(rt: &HostRuntime) -> anyhow::Result<()> {
-    let mut words = env::args(rt)?;
-    let _program = words.next();
-    match words.next() {
-        None => play_on_two_drums(rt),
-        Some(word) => match word.as_str() {
-            "--help" | "-h" => {
-                println!(rt; "{USAGE}")?;
-                Ok(())
-            }
-            _ => Err(anyhow!("no words but --help are taken; the calls come on standard input")),
-        },
-    }
-}
-
-// An error is said in one line, and ends the program with status 1.
-fn main(rt: HostRuntime) -> ExitCode {
-    match run(&rt) {
-        Ok(()) => ExitCode::SUCCESS,
-        Err(error) => {
-            let _ = eprintln!(rt; "drums: {error}");
-            ExitCode::FAILURE
+    match Request::of(env::args(rt)?.nth(1).as_deref()) {
+        Request::Work => play_on_two_drums(rt)?,
+        Request::Help => println!(rt; "{USAGE}")?,
+        Request::Unknown => {
+            bail!("no words but --help are taken; the calls come on standard input")
         }
     }
+    Ok(())
+}
+
+fn main(rt: HostRuntime) -> ExitCode {
+    end(&rt, "drums", run(&rt))
 }

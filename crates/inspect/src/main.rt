@@ -1,10 +1,12 @@
 // inspect: says in words what the frames of a radio capture say, or why they are none.
 #![tactic(auto)]
 
-use anyhow::{anyhow, bail};
+use anyhow::bail;
 use captures::first_line::fleet_size;
 use captures::outcome::{Explained, Tally};
 use captures::report::explain;
+use programs::ends::end;
+use programs::words::Request;
 use std::env;
 use std::io::{BufRead, BufReader, Split};
 use std::process::ExitCode;
@@ -51,24 +53,15 @@ fn inspect(rt: &HostRuntime) -> anyhow::Result<()> {
 }
 
 fn run(rt: &HostRuntime) -> anyhow::Result<()> {
-    let mut words = env::args(rt)?;
-    let _program = words.next();
-    match words.next() {
-        None => inspect(rt),
-        Some(word) => match word.as_str() {
-            "--help" | "-h" => usage(rt),
-            _ => Err(anyhow!("no words but --help are taken; the capture comes on standard input")),
-        },
+    match Request::of(env::args(rt)?.nth(1).as_deref()) {
+        Request::Work => inspect(rt),
+        Request::Help => usage(rt),
+        Request::Unknown => {
+            bail!("no words but --help are taken; the capture comes on standard input")
+        }
     }
 }
 
-// An error is said in one line, and ends the program with status 1.
 fn main(rt: HostRuntime) -> ExitCode {
-    match run(&rt) {
-        Ok(()) => ExitCode::SUCCESS,
-        Err(error) => {
-            let _ = eprintln!(rt; "inspect: {error}");
-            ExitCode::FAILURE
-        }
-    }
+    end(&rt, "inspect", run(&rt))
 }
