@@ -49,15 +49,13 @@ fn number_of(word: &str) -> anyhow::Result<u32> {
         .context("a number from 0 to 4294967295 is wanted")
 }
 
-fn nothing_more(words: SplitWhitespace) -> anyhow::Result<()> {
-    let mut words = words;
+fn nothing_more(mut words: SplitWhitespace) -> anyhow::Result<()> {
     ensure!(words.next().is_none(), "there are words too many");
     Ok(())
 }
 
 // The words after read: a row number and, where there is a second, the size of the target.
-fn row_and_size(words: SplitWhitespace) -> anyhow::Result<(u32, usize)> {
-    let mut words = words;
+fn row_and_size(mut words: SplitWhitespace) -> anyhow::Result<(u32, usize)> {
     let row = words.next().context("read wants the number of a row")?;
     let k = number_of(row)?;
     let Some(size) = words.next() else {
@@ -118,18 +116,15 @@ impl<J: Journal> Player<'_, J> {
     fn line(&mut self, line: io::Result<String>) -> anyhow::Result<()> {
         let line = line?;
         let mut words = line.split_whitespace();
-        let Some(call) = words.next() else {
-            println!(self.rt; "")?;
-            return Ok(());
-        };
-        match call {
-            _ if line.starts_with('#') => println!(self.rt; "{line}")?,
-            "append" => self.append(words, 0)?,
-            "row" => self.append(words, ROW_BYTES)?,
-            "read" => self.read(words)?,
-            "length" => tell(self.rt, call, self.journal.length(), words)?,
-            "free" => tell(self.rt, call, self.journal.free(), words)?,
-            _ => bail!("append, row, read, length, free or # is wanted"),
+        match words.next() {
+            None => println!(self.rt; "")?,
+            Some(_) if line.starts_with('#') => println!(self.rt; "{line}")?,
+            Some("append") => self.append(words, 0)?,
+            Some("row") => self.append(words, ROW_BYTES)?,
+            Some("read") => self.read(words)?,
+            Some("length") => tell(self.rt, "length", self.journal.length(), words)?,
+            Some("free") => tell(self.rt, "free", self.journal.free(), words)?,
+            Some(_) => bail!("append, row, read, length, free or # is wanted"),
         }
         Ok(())
     }

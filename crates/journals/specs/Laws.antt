@@ -7,7 +7,7 @@ use Rattle.std.proofs.lemmas.Grind.{common_steps}
 use Rattle.journals.specs.Journals.{Meaning, Sound, most_rows}
 use Rattle.journals.specs.Makes.{both, chained, empty, joined}
 
-pub joined_sound : (a b : Meaning) → Sound a → Sound b → both a b ≤ most_rows → Sound (joined a b)
+joined_sound : (a b : Meaning) → Sound a → Sound b → both a b ≤ most_rows → Sound (joined a b)
 joined_sound a b sa sb few = record {
   bounded = grind (arith, common_steps);
   shaped = λ i lt. grind (arith, common_steps, sa.shaped, sb.shaped);

@@ -41,12 +41,11 @@ impl<A: IntoRows, B: IntoRows> IntoRows for Chain<A, B> {
 
 // Puts a journal to a trial, and ends it whatever came of that.
 pub(crate) fn rows_after<J: IntoRows, F: FnOnce(&mut J) -> Result<(), Fail>>(
-    journal: J,
+    mut journal: J,
     trial: F,
 ) -> Result<J::Rows, Fail>
     requires { F.IsAlwaysCallable trial }
 {
-    let mut journal = journal;
     let tried = trial(&mut journal);
     let rows = journal.into_rows();
     tried?;
