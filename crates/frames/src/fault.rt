@@ -26,7 +26,7 @@ impl From<FrameFault> for u8 {
 }
 
 impl FrameFault {
-    // The offset that it carries; 0 where it carries none, which is how a refusal is told.
+    // The offset that it carries; 0 where it carries none. It is a number and no Option, since a refusal is told with 0 then.
     pub fn offset(self) -> u8
         ensures { result ≡ fault_offset self }
     {

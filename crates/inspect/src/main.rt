@@ -12,19 +12,12 @@ use std::io::{BufRead, BufReader, Split};
 use std::process::ExitCode;
 use values::fleet_size::FleetSize;
 
-fn usage(rt: &HostRuntime) -> anyhow::Result<()> {
-    println!(rt; "inspect: explains the frames of a radio capture, read from standard input")?;
-    println!(rt; "")?;
-    println!(rt; "  first line     the number of machines in the fleet, 1 to 9")?;
-    println!(rt;
-        "  further lines  the bytes of one frame each, in hexadecimal; blanks may stand between bytes"
-    )?;
-    println!(rt; "")?;
-    println!(rt;
-        "It prints one line for each frame, and at the end how many were good, refused and unreadable."
-    )?;
-    Ok(())
-}
+const USAGE: &str = "inspect: explains the frames of a radio capture, read from standard input
+
+  first line     the number of machines in the fleet, 1 to 9
+  further lines  the bytes of one frame each, in hexadecimal; blanks may stand between bytes
+
+It prints one line for each frame, and at the end how many were good, refused and unreadable.";
 
 // Says each line behind the first as it comes, so that a capture can be followed while it is made.
 fn explain_lines<B: BufRead + Drop>(
@@ -54,12 +47,13 @@ fn inspect(rt: &HostRuntime) -> anyhow::Result<()> {
 
 fn run(rt: &HostRuntime) -> anyhow::Result<()> {
     match Request::of(env::args(rt)?.nth(1).as_deref()) {
-        Request::Work => inspect(rt),
-        Request::Help => usage(rt),
+        Request::Work => inspect(rt)?,
+        Request::Help => println!(rt; "{USAGE}")?,
         Request::Unknown => {
             bail!("no words but --help are taken; the capture comes on standard input")
         }
     }
+    Ok(())
 }
 
 fn main(rt: HostRuntime) -> ExitCode {

@@ -54,9 +54,10 @@ pub(crate) fn rows_after<J: IntoRows, F: FnOnce(&mut J) -> Result<(), Fail>>(
 
 // A row that no other number below 65,536 has: its number stands in the second byte and in the last.
 pub(crate) fn row(k: u32) -> [u8; 32] {
+    let [_, _, high, low] = k.to_be_bytes();
     let mut bytes = [9u8; 32];
-    bytes[1] = (k / 256 % 256) as u8;
-    bytes[31] = (k % 256) as u8;
+    bytes[1] = high;
+    bytes[31] = low;
     bytes
 }
 
