@@ -66,7 +66,8 @@ impl Received<'_> {
         })
     }
 
-    // A fill of a ballot of the kind V, whatever the first byte is.
+    // A fill of a ballot of the kind V, whatever the first byte is. It has no round, so it is read apart from a contribution: one function
+    // for both would have to ask at each step which it is.
     fn fill<V: ValueKind>(self) -> Result<Fill<V>, FrameFault>
         ensures { result ≡ answered (fill_layout V.ValueKind.kind self.entry.fleet.machines self.entry.bytes.now) }
     {

@@ -48,6 +48,7 @@ impl<V: ValueKind> Contribution<V> {
 }
 
 impl<V: ValueKind> Fill<V> {
+    // A fill has no round, so its bytes stand apart from those of a contribution, which one function would have to cut.
     fn bytes(&self) -> [u8; 6]
         ensures { result ≡ fill_spelling V.ValueKind.kind self.now }
     {

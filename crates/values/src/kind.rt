@@ -20,11 +20,12 @@ pub trait ValueKind: Copy {
 
     ghost FILL: { ℕ };
 
-    // Whether this value comes before another in the order of the kind.
+    // Whether this value comes before another in the order of the kind, which need not be that of the type: so this is no bound on Ord.
     fn is_before(self, other: Self) -> bool
         ensures { result ≡ kind.before self other };
 
-    // The two bytes of the value, the one sent first in front.
+    // The two bytes of the value, the one sent first in front, and back. Which bytes read as a value depends on the fleet, so the two
+    // are no From and TryFrom.
     fn write(self) -> [u8; 2]
         ensures { result ≡ kind.high self ∷ kind.low self ∷ [] };
 
