@@ -2,8 +2,7 @@
 ghost use Rattle.std.specs.Prelude.{◌≡◌, ℕ, ◌<◌, ◌≤◌, [], length, slice_index_or};
 ghost use Rattle.journals.specs.Journals.{Row};
 ghost use Rattle.journals.specs.Makes.{drum_meaning, drum_rows, empty};
-ghost use Rattle.std.proofs.Common.{rules};
-ghost use Rattle.std.proofs.lemmas.Grind.{common_steps};
+ghost use Rattle.journals.specs.Laws.{drum_sound};
 
 use crate::fault::JournalFault;
 use crate::journal::{Journal, check_append, check_read};
@@ -39,7 +38,7 @@ impl Drum {
 impl Journal for Drum {
     ghost meaning = { λ d. drum_meaning d.table };
 
-    ghost sound = { Prim.search (rules, common_steps) };
+    ghost sound = { λ d. drum_sound d.table d.sized d.few d.shaped };
 
     fn append(&mut self, row: &[u8]) -> Result<u32, JournalFault> {
         check_append(self.free(), row)?;

@@ -8,7 +8,8 @@ use crate::journal::ROW_BYTES;
 // A drum has so many rows.
 pub const DRUM_ROWS: u32 = 48;
 
-// The first rows are used, the others mean nothing. The count stands beside the rows: this is all the memory that a drum has, without a heap.
+// The first rows are used, the others mean nothing. The count stands beside the rows, since all 48 are handed back when a drum ends, and
+// what stands in each is promised: of room that is not used a vector would promise nothing.
 #[derive(Drop)]
 pub struct Table {
     pub rows: [[u8; ROW_BYTES]; DRUM_ROWS as usize],

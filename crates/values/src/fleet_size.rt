@@ -13,11 +13,11 @@ impl FleetSize {
     // The most machines that a fleet can have.
     pub const MOST: u8 = 9;
 
-    // The size, or None where n is outside 1 to 9.
+    // The size, or None where n is outside 1 to 9. There is one way to fail, so a TryFrom with an error of its own would say no more.
     pub fn new(n: u8) -> Option<FleetSize>
         ensures { MatchOption result (1 ≤ n → n ≤ 9 → ⊥) (λ size. size.machines ≡ n) }
     {
-        if 1 <= n && n <= FleetSize::MOST {
+        if (1..=FleetSize::MOST).contains(&n) {
             Some(FleetSize { machines: n })
         } else {
             None

@@ -24,8 +24,8 @@ pub trait ValueKind: Copy {
     fn is_before(self, other: Self) -> bool
         ensures { result ≡ kind.before self other };
 
-    // The two bytes of the value, the one sent first in front, and back. Which bytes read as a value depends on the fleet, so the two
-    // are no From and TryFrom.
+    // The two bytes of the value, the one sent first in front, and back. Which bytes read as a value depends on the fleet, so
+    // there can be no TryFrom for them, and a From for the other way would stand alone.
     fn write(self) -> [u8; 2]
         ensures { result ≡ kind.high self ∷ kind.low self ∷ [] };
 

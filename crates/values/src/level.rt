@@ -45,7 +45,7 @@ impl ValueKind for Level {
     // Which levels there are does not depend on the size of the fleet.
     fn read(_n: u8, high: u8, low: u8) -> Option<Level> {
         let tenths = i16::from_be_bytes([high, low]);
-        if Level::COLDEST <= tenths && tenths <= Level::WARMEST {
+        if (Level::COLDEST..=Level::WARMEST).contains(&tenths) {
             Some(Level(tenths))
         } else {
             None

@@ -46,7 +46,7 @@ impl ValueKind for Mark {
     }
 
     fn read(n: u8, high: u8, low: u8) -> Option<Mark> {
-        if 1 <= high && high <= n && 1 <= low && low <= Mark::MOST_CHANGES {
+        if (1..=n).contains(&high) && (1..=Mark::MOST_CHANGES).contains(&low) {
             Some(Mark {
                 author: high,
                 number: low,
