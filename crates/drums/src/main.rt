@@ -6,8 +6,7 @@ use captures::hex::{HexFault, read_hex};
 use journals::chain::Chain;
 use journals::drum::Drum;
 use journals::journal::{Journal, ROW_BYTES};
-use programs::ends::end;
-use programs::words::Request;
+use programs::start::Program;
 use std::alloc::Global;
 use std::io::{BufRead, BufReader};
 use std::process::ExitCode;
@@ -17,8 +16,9 @@ use std::{env, io};
 // A target of a read can have so many bytes.
 const MOST_TARGET: usize = 64;
 
-const USAGE: &str =
-    "drums: plays calls on a journal, a chain of two empty drums, and prints what they answer
+const DRUMS: Program = Program {
+    name: "drums",
+    usage: "drums: plays calls on a journal, a chain of two empty drums, and prints what they answer
 
 Standard input has one call to a line:
   append HEX   append, with exactly these bytes
@@ -29,7 +29,9 @@ Standard input has one call to a line:
   free         how many rows are free
   # ...        a comment, which is printed
 
-At the end it prints how many rows each of the two drums has.";
+At the end it prints how many rows each of the two drums has.",
+    input: "the calls come on standard input",
+};
 
 // The bytes that words spell, in hexadecimal.
 fn bytes_of(alloc: Global, words: SplitWhitespace) -> anyhow::Result<Vec<u8>> {
@@ -132,7 +134,7 @@ impl<J: Journal> Player<'_, J> {
     // Calls are answered as they come; an error names the line.
     fn play(&mut self) -> anyhow::Result<()> {
         let lines = BufReader::new(self.rt.alloc(), self.rt.stdin())?.lines(self.rt.alloc());
-        for (number, line) in (1..=u64::MAX).zip(lines) {
+        for (number, line) in (1u64..).zip(lines) {
             self.line(line)
                 .map_err(|error| anyhow!("line {number}: {error}"))?;
         }
@@ -153,17 +155,7 @@ fn play_on_two_drums(rt: &HostRuntime) -> anyhow::Result<()> {
     Ok(())
 }
 
-fn run(rt: &HostRuntime) -> anyhow::Result<()> {
-    match Request::of(env::args(rt)?.nth(1).as_deref()) {
-        Request::Work => play_on_two_drums(rt)?,
-        Request::Help => println!(rt; "{USAGE}")?,
-        Request::Unknown => {
-            bail!("no words but --help are taken; the calls come on standard input")
-        }
-    }
-    Ok(())
-}
-
 fn main(rt: HostRuntime) -> ExitCode {
-    end(&rt, "drums", run(&rt))
+    let word = env::args(&rt).map(|mut words| words.nth(1));
+    DRUMS.start(&rt, word, || play_on_two_drums(&rt))
 }

@@ -5,19 +5,22 @@ use anyhow::bail;
 use captures::first_line::fleet_size;
 use captures::outcome::{Explained, Tally};
 use captures::report::explain;
-use programs::ends::end;
-use programs::words::Request;
+use programs::start::Program;
 use std::env;
 use std::io::{BufRead, BufReader, Split};
 use std::process::ExitCode;
 use values::fleet_size::FleetSize;
 
-const USAGE: &str = "inspect: explains the frames of a radio capture, read from standard input
+const INSPECT: Program = Program {
+    name: "inspect",
+    usage: "inspect: explains the frames of a radio capture, read from standard input
 
   first line     the number of machines in the fleet, 1 to 9
   further lines  the bytes of one frame each, in hexadecimal; blanks may stand between bytes
 
-It prints one line for each frame, and at the end how many were good, refused and unreadable.";
+It prints one line for each frame, and at the end how many were good, refused and unreadable.",
+    input: "the capture comes on standard input",
+};
 
 // Says each line behind the first as it comes, so that a capture can be followed while it is made.
 fn explain_lines<B: BufRead + Drop>(
@@ -45,17 +48,7 @@ fn inspect(rt: &HostRuntime) -> anyhow::Result<()> {
     explain_lines(rt, fleet, lines)
 }
 
-fn run(rt: &HostRuntime) -> anyhow::Result<()> {
-    match Request::of(env::args(rt)?.nth(1).as_deref()) {
-        Request::Work => inspect(rt)?,
-        Request::Help => println!(rt; "{USAGE}")?,
-        Request::Unknown => {
-            bail!("no words but --help are taken; the capture comes on standard input")
-        }
-    }
-    Ok(())
-}
-
 fn main(rt: HostRuntime) -> ExitCode {
-    end(&rt, "inspect", run(&rt))
+    let word = env::args(&rt).map(|mut words| words.nth(1));
+    INSPECT.start(&rt, word, || inspect(&rt))
 }

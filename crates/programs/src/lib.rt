@@ -2,4 +2,5 @@
 #![tactic(auto)]
 
 pub mod ends;
+pub mod start;
 pub mod words;
