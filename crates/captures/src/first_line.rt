@@ -22,6 +22,7 @@ pub fn fleet_size(line: &[u8]) -> Option<FleetSize>
     ensures { SaysSize (unblanked line.now) result }
 {
     match only_character(line)? {
+        // the pattern says which digits, so this is all that there is to convert
         digit @ b'1'..=b'9' => FleetSize::new(digit - b'0'),
         _ => None,
     }

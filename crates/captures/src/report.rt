@@ -39,6 +39,7 @@ pub fn explain(
 {
     match read_hex(heap, line) {
         Ok(bytes) => explain_bytes(heap, fleet, bytes.as_slice()),
+        // a match of its own: in one match over both the check does not see which column the words tell
         Err(fault) => match fault {
             HexFault::Column(column) => Ok(Explained {
                 outcome: Outcome::Unreadable,

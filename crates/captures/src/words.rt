@@ -30,7 +30,9 @@ impl Display for Dotted {
 struct About<'a, T, D>(&'a str, &'a T, D);
 
 impl<V, D: Display> Display for About<'_, Contribution<V>, D> {
-    ghost output = { λ x. option_map (λ value. contribution_words x.0.now x.1.now.ballot x.1.now.round value x.1.now.sender) (D.output x.2) };
+    ghost output = { λ x.
+        option_map (λ value. contribution_words x.0.now x.1.now.ballot x.1.now.round value x.1.now.sender)
+        (D.output x.2) };
 
     fn fmt<W: fmt::Write>(&self, f: &mut fmt::Formatter<W>) -> fmt::Result {
         let About(subject, c, value) = self;
@@ -42,6 +44,7 @@ impl<V, D: Display> Display for About<'_, Contribution<V>, D> {
     }
 }
 
+// A fill has no round to tell.
 impl<V, D: Display> Display for About<'_, Fill<V>, D> {
     ghost output = { λ x. option_map (λ value. fill_words x.0.now x.1.now.ballot value x.1.now.sender) (D.output x.2) };
 

@@ -6,36 +6,35 @@
 mod first_lines {
     use captures::first_line::fleet_size;
 
-    // 0 where the line says no size.
-    fn size_or_0(line: &str) -> u8 {
-        fleet_size(line.as_bytes()).map_or(0, |size| size.machines)
+    fn machines(line: &str) -> Option<u8> {
+        fleet_size(line.as_bytes()).map(|size| size.machines)
     }
 
     #[test]
     fn one_digit_from_1_to_9(rt: HostRuntime) {
-        assert_eq!(rt; size_or_0("1"), 1);
-        assert_eq!(rt; size_or_0("5"), 5);
-        assert_eq!(rt; size_or_0("9"), 9);
+        assert_eq!(rt; machines("1"), Some(1));
+        assert_eq!(rt; machines("5"), Some(5));
+        assert_eq!(rt; machines("9"), Some(9));
     }
 
     #[test]
     fn blanks_may_stand_around_it(rt: HostRuntime) {
-        assert_eq!(rt; size_or_0("  4"), 4);
-        assert_eq!(rt; size_or_0("4 \t\r"), 4);
-        assert_eq!(rt; size_or_0("\t7 "), 7);
+        assert_eq!(rt; machines("  4"), Some(4));
+        assert_eq!(rt; machines("4 \t\r"), Some(4));
+        assert_eq!(rt; machines("\t7 "), Some(7));
     }
 
     #[test]
     fn anything_else_says_no_size(rt: HostRuntime) {
-        assert_eq!(rt; size_or_0(""), 0);
-        assert_eq!(rt; size_or_0("  "), 0);
-        assert_eq!(rt; size_or_0("0"), 0);
-        assert_eq!(rt; size_or_0("10"), 0);
-        assert_eq!(rt; size_or_0("04"), 0);
-        assert_eq!(rt; size_or_0("+4"), 0);
-        assert_eq!(rt; size_or_0("4 4"), 0);
-        assert_eq!(rt; size_or_0("a"), 0);
-        assert_eq!(rt; size_or_0(":"), 0);
-        assert_eq!(rt; size_or_0("05 01 00 03 FE 70"), 0);
+        assert_eq!(rt; machines(""), None);
+        assert_eq!(rt; machines("  "), None);
+        assert_eq!(rt; machines("0"), None);
+        assert_eq!(rt; machines("10"), None);
+        assert_eq!(rt; machines("04"), None);
+        assert_eq!(rt; machines("+4"), None);
+        assert_eq!(rt; machines("4 4"), None);
+        assert_eq!(rt; machines("a"), None);
+        assert_eq!(rt; machines(":"), None);
+        assert_eq!(rt; machines("05 01 00 03 FE 70"), None);
     }
 }

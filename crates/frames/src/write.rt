@@ -12,7 +12,7 @@ use crate::pairs::Pair;
 use arrayvec::ArrayVec;
 use values::kind::{QuestionKind, ValueKind};
 
-// A change with a pair for each of nine machines has so many bytes, and no frame has more.
+// A record can name all nine machines in its pairs; no spelling is longer than that of such a change.
 const MOST_BYTES: usize = 26;
 
 // Puts bytes at the front of the buffer, or refuses where it is too short.

@@ -1,5 +1,5 @@
 // Writing into buffers that are too short, that fit and that are longer.
-use frames::fault::FrameFault;
+use frames::fault::{BufferTooShort, FrameFault};
 use frames::frame::{Change, Contribution, Fill, Forerunners, Frame};
 use frames::read::read;
 use frames::write::write;
@@ -32,14 +32,14 @@ fn change() -> Frame<Level> {
 #[test]
 fn a_longer_buffer_keeps_its_end(rt: HostRuntime) {
     let mut buffer = [0xAAu8; 8];
-    assert_eq!(rt; write(&coldest(), &mut buffer).ok(), Some(6));
+    assert_eq!(rt; write(&coldest(), &mut buffer), Ok(6));
     assert_eq!(rt; buffer, [0x05, 0x01, 0x00, 0x03, 0xFE, 0x70, 0xAA, 0xAA]);
 }
 
 #[test]
 fn a_fitting_buffer_is_filled(rt: HostRuntime) {
     let mut buffer = [0xAAu8; 6];
-    assert_eq!(rt; write(&coldest(), &mut buffer).ok(), Some(6));
+    assert_eq!(rt; write(&coldest(), &mut buffer), Ok(6));
     assert_eq!(rt; buffer, [0x05, 0x01, 0x00, 0x03, 0xFE, 0x70]);
 }
 
@@ -53,7 +53,7 @@ fn a_short_buffer_is_left_alone(rt: HostRuntime) {
 #[test]
 fn pairs_are_written_machines_first(rt: HostRuntime) {
     let mut buffer = [0xAAu8; 14];
-    assert_eq!(rt; write(&change(), &mut buffer).ok(), Some(12));
+    assert_eq!(rt; write(&change(), &mut buffer), Ok(12));
     assert_eq!(rt;
         buffer,
         [
@@ -65,7 +65,7 @@ fn pairs_are_written_machines_first(rt: HostRuntime) {
 #[test]
 fn a_change_needs_room_for_its_pairs(rt: HostRuntime) {
     let mut buffer = [0xAAu8; 11];
-    assert!(rt; write(&change(), &mut buffer).is_err());
+    assert_eq!(rt; write(&change(), &mut buffer), Err(BufferTooShort));
     assert_eq!(rt; buffer, [0xAA; 11]);
 }
 
@@ -81,7 +81,7 @@ fn a_contribution_has_its_round_and_value_high_byte_first(rt: HostRuntime) {
         },
     });
     let mut buffer = [0u8; 8];
-    assert_eq!(rt; write(&frame, &mut buffer).ok(), Some(8));
+    assert_eq!(rt; write(&frame, &mut buffer), Ok(8));
     assert_eq!(rt; buffer, [0x02, 0x04, 0x01, 0x68, 0xEA, 0x60, 0x02, 0x05]);
 }
 
