@@ -1,4 +1,4 @@
-// What the programs of this repository have in common: how they read the words behind their name, and how they end.
+// What the programs inspect and drums have in common: what they are asked for by the words behind their name, and how they end.
 #![tactic(auto)]
 
 pub mod ends;
