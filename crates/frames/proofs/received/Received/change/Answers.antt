@@ -1,5 +1,5 @@
 use Rattle.std.proofs.Common.{◌≡◌, ℕ, ◌+◌, List, ◌++◌, length, take, drop, None, Ok, true, arith, rules}
-use Rattle.frames.proofs.Words.{none_bad}
+use Rattle.frames.proofs.Tables.{none_bad}
 use Rattle.frames.specs.Changes.{change_whole, pairs, pair_fields, machines_in, counts_in}
 use Rattle.frames.specs.Clocks.{clock_of, machine_fields, count_fields}
 use Rattle.frames.specs.Fields.{byte, first_bad, unless_bad}
