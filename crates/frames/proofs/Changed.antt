@@ -1,6 +1,6 @@
 -- Changes: written and read back, and read from no other bytes.
-use Rattle.std.proofs.Common.{◌≡◌, ℕ, ◌+◌, ◌-◌, ◌*◌, ◌<◌, ◌≤◌, true, List, ◌++◌, length, get_or, drop, None, Ok, sym, ap, ◌∙◌, arith}
-use Rattle.frames.proofs.Paired.{same_count, counts_fewer, machines_hold, counts_hold, clock_back, length_clock, pairs_back, in_range}
+use Rattle.std.proofs.Common.{◌≡◌, ℕ, ◌+◌, ◌-◌, ◌*◌, ◌≤◌, true, List, length, get_or, drop, None, Ok, replicate, arith}
+use Rattle.frames.proofs.Paired.{same_count, counts_fewer, machines_hold, counts_hold, clock_back, length_clock, pairs_back, put_all, in_range, MayHave}
 use Rattle.frames.proofs.Tables.{all_hold, answered_ok, none_joined, none_parts}
 use Rattle.frames.proofs.Words.{front_8, signed_back, signed_bytes, word_bytes}
 use Rattle.frames.specs.Changes.{pairs, machines_in, counts_in, fixed_fields, pair_fields, change_in, change_whole, change_layout, change_spelling, ValidChange}
@@ -54,42 +54,41 @@ module _ (n : ℕ) (one : 1 ≤ n) (nine : n ≤ 9) where
     long = grind (arith, common_steps, whole)
 
     module _ (machines_hold : first_bad (machine_fields n (byte b 2) 8 0 (machines_in b)) ≡ None) (counts_hold : first_bad (count_fields (8 + pairs b) (counts_in b)) ≡ None) where
-      pairs_there : (machines_of 1 there ≡ machines_in b) × (counts_of there ≡ counts_in b)
-      pairs_there =
-          let back = pairs_back n (byte b 2) 9 8 (8 + pairs b) 0 (machines_in b) (counts_in b) nine (omega (arith, long)) machines_hold counts_hold in
-          (back.0, back.1)
+      back :
+          (machines_of 1 there ≡ machines_in b)
+          × (counts_of there ≡ counts_in b)
+          × (put_all 1 (replicate 9 0) (machines_in b) (counts_in b) ≡ there)
+      back =
+          pairs_back n (byte b 2) 9 8 (8 + pairs b) 0 (machines_in b) (counts_in b) nine (omega (arith, long)) machines_hold counts_hold
 
-      range :
-          (i : ℕ)
-          → (get_or there i 0 ≤ 40) × (1 + i ≡ byte b 2 → get_or there i 0 ≡ 0) × (n < 1 + i → get_or there i 0 ≡ 0)
-      range i = let m = pairs_there.0 in let c = pairs_there.1 in
+      range : (i : ℕ) → MayHave n (byte b 2) (1 + i) (get_or there i 0)
+      range i =
+          let m = back.0 in
+          let c = back.1 in
           in_range n (byte b 2) 8 (8 + pairs b) 0 1 there i (rw m machines_hold) (rw c counts_hold)
 
       spelled : byte b 0 ≡ 1 → b ≡ change_spelling (change_in b)
       spelled kind =
           let front = front_8 b (omega (arith, whole)) in
-          let rest : drop 8 b ≡ machines_in b ++ counts_in b = sym (take-append-drop (pairs b) (drop 8 b)) in
+          let rest = take-append-drop (pairs b) (drop 8 b) in
           let setting = word_bytes b bytes 4 in
           let level = signed_bytes b bytes 6 in
-          let ms = pairs_there.0 in
-          let cs = pairs_there.1 in
-          let m : length (counts_of there) ≡ byte b 1 = ap length cs ∙ long.1 in
-          let together : machines_of 1 there ++ counts_of there ≡ machines_in b ++ counts_in b = cc in
-          cc
+          let m = long.1 in
+          cc (back.0, back.1)
 
       valid : first_bad (fixed_fields n b) ≡ None → ValidChange n (change_in b)
       valid none =
           let hold = all_hold (fixed_fields n b) none in
           record {
-            author_least = grind (arith, nat_tests, hold.0);
-            author_most = grind (arith, nat_tests, hold.0);
-            number_least = grind (arith, nat_tests, hold.1.0);
-            number_most = grind (arith, nat_tests, hold.1.0);
-            setting_most = grind (arith, nat_tests, hold.1.1.0);
+            author_least = grind (arith, nat_tests);
+            author_most = grind (arith, nat_tests);
+            number_least = grind (arith, nat_tests);
+            number_most = grind (arith, nat_tests);
+            setting_most = grind (arith, nat_tests);
             level_fits = (signed_bytes b bytes 6).0;
             nine = length_clock 9 1 (machines_in b) (counts_in b);
             counts_most = λ j. (range j).0;
-            no_own = (range (byte b 2 - 1)).1 (grind (arith, nat_tests, hold.0));
+            no_own = (range (byte b 2 - 1)).1 (grind (arith, nat_tests));
             none_above = λ j l. (range j).2 (omega arith);
           }
 

@@ -46,6 +46,5 @@ fill_next clock m c left left' ms cs all e e' f = let g = rw (e, e') at f in (g.
 
 pub fill_end : (clock ms cs all : List ℕ) → (ms ≡ []) ⊎ (cs ≡ []) → Fills clock ms cs all → clock ≡ all
 fill_end clock [] cs all e f = f.1
-fill_end clock (m ∷ ms) [] all e f = f.1
-fill_end clock (m ∷ ms) (c ∷ cs) all (inl e) f = cc
-fill_end clock (m ∷ ms) (c ∷ cs) all (inr e) f = cc
+fill_end clock (m ∷ ms) cs all (inl e) f = cc
+fill_end clock (m ∷ ms) cs all (inr e) f = (rw e at f).1

@@ -56,11 +56,7 @@ module _ {V : Type 0} (K : Kind V) (L : Lawful K) (n : ℕ) (one : 1 ≤ n) (nin
         let ballot = word_bytes b bytes 2 in
         let round = word_bytes b bytes 4 in
         let value = value_bytes 6 reads in (
-          record {
-            vote = vote_valid 6 reads hold.0 hold.1.0;
-            round_least = grind (arith, nat_tests, hold.1.1.0);
-            round_most = grind (arith, nat_tests, hold.1.1.0);
-          },
+          (let vote = vote_valid 6 reads hold.0 hold.1.0 in search (rules, nat_tests)),
           cc,
         ))
 
