@@ -1,5 +1,6 @@
-use Rattle.std.proofs.Common.{◌+◌, length, rules}
+use Rattle.std.proofs.Common.{◌+◌, length, rules, arith}
 use Rattle.frames.proofs.Tables.{checked_append}
+use Rattle.std.proofs.lemmas.Grind.{common_steps}
 use Rattle.frames.proofs.Filled.{fill_start, fill_next, fill_end}
 use Rattle.std.proofs.lemmas.Slice.Zip.{Zip-more, either_empty_from_Zip}
 use Rattle.frames.proofs.change.forerunners.Goals as goal
@@ -19,5 +20,4 @@ loop-machine-preserved c =
 pub returns : goal.returns
 returns c =
     let e = either_empty_from_Zip c.loop-machine.machine-iterator c.next.new.self _ c.in-None.is c.next.ensures.steps in
-    let f = fill_end _ _ _ _ e c.loop-machine.invariant.fills in
-    rw (checked_append, ← c.in_ok-check_machines.ensures, ← c.in_ok-check_counts.ensures, f)
+    grind (arith, common_steps, checked_append, fill_end _ _ _ _ e c.loop-machine.invariant.fills)
