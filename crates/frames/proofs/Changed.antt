@@ -1,6 +1,6 @@
 -- Changes: written and read back, and read from no other bytes.
 use Rattle.std.proofs.Common.{◌≡◌, ℕ, ◌+◌, ◌-◌, ◌*◌, ◌≤◌, true, List, length, get_or, drop, None, Ok, replicate, arith}
-use Rattle.frames.proofs.Paired.{same_count, counts_fewer, machines_hold, counts_hold, clock_back, length_clock, pairs_back, put_all, in_range, MayHave}
+use Rattle.frames.proofs.Paired.{same_count, counts_fewer, pairs_hold, clock_back, length_clock, pairs_back, put_all, in_range, MayHave}
 use Rattle.frames.proofs.Tables.{all_hold, answered_ok, none_joined, none_parts}
 use Rattle.frames.proofs.Words.{front_8, signed_back, signed_bytes, word_bytes}
 use Rattle.frames.specs.Changes.{pairs, machines_in, counts_in, fixed_fields, pair_fields, change_in, change_whole, change_layout, change_spelling, ValidChange}
@@ -28,17 +28,16 @@ module _ (n : ℕ) (one : 1 ≤ n) (nine : n ≤ 9) where
         let fewer = counts_fewer clock (c.author - 1) (omega (arith, v.nine, v.author_least, v.author_most)) v.no_own in
         omega (arith, v.nine)
 
-    may : (i : ℕ) → (get_or clock i 0 ≡ 0 → ⊥) → (1 + i ≤ n) × (1 + i ≡ c.author → ⊥)
-    may i some = grind (arith, v.none_above i, v.no_own)
+    may : (i : ℕ) → MayHave n c.author (1 + i) (get_or clock i 0)
+    may i = grind (arith, v.counts_most i, v.none_above i, v.no_own, v.author_least)
 
     pub change_back : answered (change_layout n (change_spelling c)) ≡ Ok c
     change_back =
         let same = same_count 1 clock in
         let machines = take_at ms cs (length cs) same in
         let counts = drop_at ms cs (length cs) same in
-        let hold = none_joined (machine_fields n c.author 8 0 ms) (count_fields (8 + length cs) cs)
-        (machines_hold n c.author 8 0 1 clock (omega arith) may)
-        (counts_hold (8 + length cs) clock v.counts_most) in
+        let hold = pairs_hold n c.author 8 (8 + length cs) 0 1 clock (omega arith) may in
+        let joined = none_joined (machine_fields n c.author 8 0 ms) (count_fields (8 + length cs) cs) hold.0 hold.1 in
         let back : clock_of 9 1 ms cs ≡ clock = rw v.nine at (clock_back 1 clock) in
         let level = signed_back c.level v.level_fits in
         grind (arith, common_steps, few)

@@ -32,17 +32,9 @@ pub fill_start :
     → Ok tt ≡ checked (count_fields first cs)
     → Fills (replicate 9 0) ms cs (clock_of 9 1 ms cs)
 fill_start n author first ms cs nine same machines counts =
-    let hold = none_bad (machine_fields n author 8 0 ms) tt tt machines in
-    let range = none_bad (count_fields first cs) tt tt counts in
-    (placed n author 8 0 ms nine hold.0, (pairs_back n author 9 8 first 0 ms cs (omega arith) same hold.0 range.0).2)
-
-pub fill_next :
-    (clock : List ℕ) (m c : ℕ) (left left' ms cs all : List ℕ)
-    → left ≡ m ∷ ms
-    → left' ≡ c ∷ cs
-    → Fills clock left left' all
-    → Fills (set clock (m - 1) c) ms cs all
-fill_next clock m c left left' ms cs all e e' f = let g = rw (e, e') at f in (g.0.2, g.1)
+    let hold = none_bad (machine_fields n author 8 0 ms) machines in
+    let range = none_bad (count_fields first cs) counts in
+    (placed n author 8 0 ms nine hold, (pairs_back n author 9 8 first 0 ms cs (omega arith) same hold range).2)
 
 pub fill_end : (clock ms cs all : List ℕ) → (ms ≡ []) ⊎ (cs ≡ []) → Fills clock ms cs all → clock ≡ all
 fill_end clock [] cs all e f = f.1

@@ -21,38 +21,20 @@ counts_fewer [] i l z = absurd (omega arith)
 counts_fewer (c ∷ clock) zero l z = grind (arith, common_steps, counts_few clock)
 counts_fewer (c ∷ clock) (suc i) l z = grind (arith, common_steps, counts_fewer clock i (omega arith) z)
 
--- the counts of a clock keep their range
-pub counts_hold :
-    (at : ℕ) (clock : List ℕ)
-    → ((i : ℕ) → get_or clock i 0 ≤ 40)
-    → first_bad (count_fields at (counts_of clock)) ≡ None
-counts_hold at [] most = refl
-counts_hold at (c ∷ clock) most =
-    let later : (i : ℕ) → get_or clock i 0 ≤ 40 = λ i. most (suc i) in
-    grind (arith, common_steps, most 0, counts_hold at clock later, counts_hold (at + 1) clock later)
-
--- the next machine number, if there is one, is above j
-abbrev Above : ℕ → List ℕ → Type 0
-Above j [] = Unit {0}
-Above j (m ∷ ms) = j < m
-
-machines_above : (low j : ℕ) (clock : List ℕ) → low < j → Above low (machines_of j clock)
-machines_above low j [] l = tt
-machines_above low j (c ∷ clock) l = grind (arith, common_steps, machines_above low (j + 1) clock (omega arith))
-
+-- a machine below those of a clock has no pair of it
 clock_skips :
-    (size j : ℕ) (ms cs : List ℕ) → Above j ms → clock_of (suc size) j ms cs ≡ 0 ∷ clock_of size (j + 1) ms cs
-clock_skips size j [] cs above = refl
-clock_skips size j (m ∷ ms) [] above = refl
-clock_skips size j (m ∷ ms) (c ∷ cs) above = grind (arith, common_steps)
+    (size low j : ℕ) (clock cs : List ℕ)
+    → low < j
+    → clock_of (suc size) low (machines_of j clock) cs ≡ 0 ∷ clock_of size (low + 1) (machines_of j clock) cs
+clock_skips size low j [] cs l = refl
+clock_skips size low j (c ∷ clock) [] l = grind (arith, common_steps, clock_skips size low (j + 1) clock [] (omega arith))
+clock_skips size low j (c ∷ clock) (d ∷ cs) l = grind (arith, common_steps, clock_skips size low (j + 1) clock (d ∷ cs) (omega arith))
 
 -- the pairs of a clock give that clock
 pub clock_back : (j : ℕ) (clock : List ℕ) → clock_of (length clock) j (machines_of j clock) (counts_of clock) ≡ clock
 clock_back j [] = refl
 clock_back j (c ∷ clock) =
-    let above = machines_above j (j + 1) clock (omega arith) in
-    let skips = clock_skips (length clock) j (machines_of (j + 1) clock) (counts_of clock) above in
-    grind (arith, common_steps, clock_back (j + 1) clock)
+    grind (arith, common_steps, clock_back (j + 1) clock, clock_skips (length clock) j (j + 1) clock (counts_of clock) (omega arith))
 
 -- a clock of a size has that many counts
 pub length_clock : (size j : ℕ) (ms cs : List ℕ) → length (clock_of size j ms cs) ≡ size
@@ -75,25 +57,6 @@ put_all j clock (m ∷ ms) [] = clock
 put_all j clock (m ∷ ms) (c ∷ cs) = put_all j (set clock (m - j) c) ms cs
 
 module _ (n author : ℕ) where
-  -- the machine numbers of a clock keep their rule where each machine that has a count may have one
-  pub machines_hold :
-      (at previous j : ℕ) (clock : List ℕ)
-      → previous < j
-      → ((i : ℕ) → (get_or clock i 0 ≡ 0 → ⊥) → (j + i ≤ n) × (j + i ≡ author → ⊥))
-      → first_bad (machine_fields n author at previous (machines_of j clock)) ≡ None
-  machines_hold at previous j [] l may = refl
-  machines_hold at previous j (c ∷ clock) l may =
-      let later : (i : ℕ) → (get_or clock i 0 ≡ 0 → ⊥) → (j + 1 + i ≤ n) × (j + 1 + i ≡ author → ⊥) =
-      λ i some. let m = may (suc i) some in (omega (arith, m.0), λ e. m.1 (omega arith))
-      in
-      grind (
-        arith,
-        common_steps,
-        may 0,
-        machines_hold at previous (j + 1) clock (omega arith) later,
-        machines_hold (at + 1) j (j + 1) clock (omega arith) later,
-      )
-
   -- what it says that no machine number breaks its rule
   pub machines_next :
       (at previous m : ℕ) (ms : List ℕ)
@@ -104,6 +67,24 @@ module _ (n author : ℕ) where
   -- what a machine's count may be
   abbrev pub MayHave : ℕ → ℕ → Type 0
   MayHave m c = (c ≤ 40) × (m ≡ author → c ≡ 0) × (n < m → c ≡ 0)
+
+  -- the pairs of a clock whose counts may be so keep their rules
+  pub pairs_hold :
+      (at first previous j : ℕ) (clock : List ℕ)
+      → previous < j
+      → ((i : ℕ) → MayHave (j + i) (get_or clock i 0))
+      → (first_bad (machine_fields n author at previous (machines_of j clock)) ≡ None)
+      × (first_bad (count_fields first (counts_of clock)) ≡ None)
+  pairs_hold at first previous j [] l range = (refl, refl)
+  pairs_hold at first previous j (c ∷ clock) l range =
+      let later : (i : ℕ) → MayHave (j + 1 + i) (get_or clock i 0) = λ i. grind (arith, range (suc i)) in
+      grind (
+        arith,
+        common_steps,
+        range 0,
+        pairs_hold at first previous (j + 1) clock (omega arith) later,
+        pairs_hold (at + 1) (first + 1) j (j + 1) clock (omega arith) later,
+      )
 
   -- the counts of a clock whose pairs hold
   pub in_range :
@@ -146,15 +127,11 @@ module _ (n author : ℕ) where
   pairs_back (suc size) at first previous [] [] l s h k =
       grind (arith, common_steps, pairs_back size at first (previous + 1) [] [] (omega arith) refl refl refl)
   pairs_back (suc size) at first previous (m ∷ ms) (c ∷ cs) l s h k =
-      let r = machines_next at previous m ms h in
-      let t = counts_next first c cs k in
-      elim (cases_eq m (previous + 1)) [
-        | inl e ↦
-            let rest = rw e at r.3 in
-            let put = put_later (previous + 1) (at + 1) (previous + 1) c (replicate size 0) ms cs (omega arith) rest in
-            grind (arith, common_steps, pairs_back size (at + 1) (first + 1) (previous + 1) ms cs (omega arith) (omega arith) rest t.2)
-        | inr e ↦
-            let rest : first_bad (machine_fields n author at (previous + 1) (m ∷ ms)) ≡ None = grind (arith, common_steps) in
-            let put = put_later (previous + 1) at (previous + 1) 0 (replicate size 0) (m ∷ ms) (c ∷ cs) (omega arith) rest in
-            grind (arith, common_steps, pairs_back size at first (previous + 1) (m ∷ ms) (c ∷ cs) (omega arith) s rest k)
-      ]
+      grind (
+        arith,
+        common_steps,
+        pairs_back size (at + 1) (first + 1) (previous + 1) ms cs (omega arith) (omega arith),
+        put_later (previous + 1) (at + 1) (previous + 1) c (replicate size 0) ms cs (omega arith),
+        pairs_back size at first (previous + 1) (m ∷ ms) (c ∷ cs) (omega arith) s,
+        put_later (previous + 1) at (previous + 1) 0 (replicate size 0) (m ∷ ms) (c ∷ cs) (omega arith),
+      )

@@ -38,9 +38,8 @@ pub checked_append :
     → unless_bad (first_bad (front ++ back)) f ≡ result_and (checked front) (result_and (checked back) (Ok f))
 checked_append {F} front back f = grind (arith, common_steps, first_bad_append front back)
 
--- a table that does not refuse has no field that breaks
-pub none_bad : {F : Type 0} (table : List Field) (f g : F) → Ok g ≡ unless_bad (first_bad table) f → (first_bad table ≡ None) × (g ≡ f)
-none_bad {F} table f g e = grind (arith, common_steps)
+pub none_bad : (table : List Field) → Ok tt ≡ checked table → first_bad table ≡ None
+none_bad table e = grind (arith, common_steps)
 
 -- a layout that answers a record is whole, no field breaks, and the record is what the fields show
 pub answered_ok :

@@ -1,7 +1,7 @@
 use Rattle.std.proofs.Common.{◌+◌, length, rules, arith}
 use Rattle.frames.proofs.Tables.{checked_append}
 use Rattle.std.proofs.lemmas.Grind.{common_steps}
-use Rattle.frames.proofs.Filled.{fill_start, fill_next, fill_end}
+use Rattle.frames.proofs.Filled.{fill_start, fill_end}
 use Rattle.std.proofs.lemmas.Slice.Zip.{Zip-more, either_empty_from_Zip}
 use Rattle.frames.proofs.change.forerunners.Goals as goal
 
@@ -14,8 +14,8 @@ loop-machine-init c =
 pub loop-machine-preserved : goal.loop-machine-preserved
 loop-machine-preserved c =
     let z = Zip-more c.loop-machine.machine-iterator c.next.new.self _ _ c.in-Some.is c.next.ensures.steps in
-    let f = fill_next _ _ _ _ _ _ _ _ z.0 z.1 c.loop-machine.invariant.fills in
-    search (rules, f)
+    let f = rw (z.0, z.1) at c.loop-machine.invariant.fills in
+    search (rules, f.0.2, f.1)
 
 pub returns : goal.returns
 returns c =
