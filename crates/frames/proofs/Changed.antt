@@ -1,7 +1,7 @@
 -- Changes: written and read back, and read from no other bytes.
 use Rattle.std.proofs.Common.{◌≡◌, ℕ, ◌+◌, ◌-◌, ◌*◌, ◌≤◌, true, List, length, get_or, drop, None, Ok, replicate, arith}
 use Rattle.frames.proofs.Paired.{same_count, counts_fewer, pairs_hold, clock_back, length_clock, pairs_back, put_all, in_range, MayHave}
-use Rattle.frames.proofs.Tables.{all_hold, answered_ok, none_joined, none_parts}
+use Rattle.frames.proofs.Tables.{all_hold, answered_ok, first_bad_append, none_parts}
 use Rattle.frames.proofs.Words.{front_8, signed_back, signed_bytes, word_bytes}
 use Rattle.frames.specs.Changes.{pairs, machines_in, counts_in, fixed_fields, pair_fields, change_in, change_whole, change_layout, change_spelling, ValidChange}
 use Rattle.frames.specs.Clocks.{clock_of, machines_of, counts_of, machine_fields, count_fields}
@@ -37,10 +37,9 @@ module _ (n : ℕ) (one : 1 ≤ n) (nine : n ≤ 9) where
         let machines = take_at ms cs (length cs) same in
         let counts = drop_at ms cs (length cs) same in
         let hold = pairs_hold n c.author 8 (8 + length cs) 0 1 clock (omega arith) may in
-        let joined = none_joined (machine_fields n c.author 8 0 ms) (count_fields (8 + length cs) cs) hold.0 hold.1 in
         let back : clock_of 9 1 ms cs ≡ clock = rw v.nine at (clock_back 1 clock) in
         let level = signed_back c.level v.level_fits in
-        grind (arith, common_steps, few)
+        grind (arith, common_steps, few, first_bad_append (machine_fields n c.author 8 0 ms) (count_fields (8 + length cs) cs))
 
   module _ (b : List ℕ) (bytes : Bytes b) (is : change_whole b ≡ true) where
     abbrev there : List ℕ

@@ -1,9 +1,10 @@
 -- A clock that is filled from its pairs, one at a time.
-use Rattle.std.proofs.Common.{◌≡◌, ℕ, ◌+◌, ◌-◌, ◌≤◌, ◌⊎◌, List, [], ◌∷◌, length, replicate, set, None, Ok, inl, inr, arith}
-use Rattle.frames.proofs.Paired.{machines_next, pairs_back, put_all}
+use Rattle.std.proofs.Common.{◌≡◌, ℕ, ◌+◌, ◌≤◌, ◌⊎◌, List, [], ◌∷◌, length, replicate, None, Ok, inl, inr, arith}
+use Rattle.frames.proofs.Paired.{pairs_back, put_all}
 use Rattle.frames.proofs.Tables.{none_bad}
 use Rattle.frames.specs.Clocks.{clock_of, machine_fields, count_fields}
 use Rattle.frames.specs.Fields.{checked, first_bad}
+use Rattle.std.proofs.lemmas.Grind.{common_steps}
 
 -- machine numbers that have a place in a clock of nine
 abbrev Placed : List ℕ → Type 0
@@ -17,8 +18,7 @@ placed :
     → Placed ms
 placed n author at previous [] nine h = tt
 placed n author at previous (m ∷ ms) nine h =
-    let r = machines_next n author at previous m ms h in
-    (omega arith, omega arith, placed n author (at + 1) m ms nine r.3)
+    (grind (arith, common_steps), grind (arith, common_steps), placed n author (at + 1) m ms nine (grind (arith, common_steps)))
 
 -- the loop over the pairs: those that are left fill the clock
 abbrev pub Fills : List ℕ → List ℕ → List ℕ → List ℕ → Type 0

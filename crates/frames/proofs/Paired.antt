@@ -1,8 +1,7 @@
 -- A clock and its pairs say the same: from the clock to its pairs and back, and from pairs whose fields hold to their clock and back.
-use Rattle.std.proofs.Common.{◌≡◌, ℕ, zero, suc, ◌+◌, ◌-◌, ◌<◌, ◌≤◌, List, [], ◌∷◌, length, get_or, replicate, set, None, refl, ap, inl, inr, arith}
+use Rattle.std.proofs.Common.{◌≡◌, ℕ, zero, suc, ◌+◌, ◌-◌, ◌<◌, ◌≤◌, List, [], ◌∷◌, length, get_or, replicate, set, None, refl, ap, arith}
 use Rattle.frames.specs.Clocks.{clock_of, machines_of, counts_of, machine_fields, count_fields}
 use Rattle.frames.specs.Fields.{first_bad}
-use Rattle.std.proofs.lemmas.Bool.{cases_eq}
 use Rattle.std.proofs.lemmas.Grind.{common_steps}
 
 -- as many machine numbers as counts
@@ -43,13 +42,6 @@ length_clock (suc size) j [] cs = ap suc (length_clock size (j + 1) [] cs)
 length_clock (suc size) j (m ∷ ms) [] = ap suc (length_clock size (j + 1) (m ∷ ms) [])
 length_clock (suc size) j (m ∷ ms) (c ∷ cs) = grind (arith, common_steps, length_clock size (j + 1))
 
--- what it says that no count breaks its range
-counts_next :
-    (at c : ℕ) (cs : List ℕ)
-    → first_bad (count_fields at (c ∷ cs)) ≡ None
-    → (1 ≤ c) × (c ≤ 40) × (first_bad (count_fields (at + 1) cs) ≡ None)
-counts_next at c cs h = grind (arith, common_steps)
-
 -- the counts of pairs, each put into a clock that begins at machine j
 abbrev pub put_all : ℕ → List ℕ → List ℕ → List ℕ → List ℕ
 put_all j clock [] cs = clock
@@ -57,13 +49,6 @@ put_all j clock (m ∷ ms) [] = clock
 put_all j clock (m ∷ ms) (c ∷ cs) = put_all j (set clock (m - j) c) ms cs
 
 module _ (n author : ℕ) where
-  -- what it says that no machine number breaks its rule
-  pub machines_next :
-      (at previous m : ℕ) (ms : List ℕ)
-      → first_bad (machine_fields n author at previous (m ∷ ms)) ≡ None
-      → (previous < m) × (m ≤ n) × (m ≡ author → ⊥) × (first_bad (machine_fields n author (at + 1) m ms) ≡ None)
-  machines_next at previous m ms h = grind (arith, common_steps)
-
   -- what a machine's count may be
   abbrev pub MayHave : ℕ → ℕ → Type 0
   MayHave m c = (c ≤ 40) × (m ≡ author → c ≡ 0) × (n < m → c ≡ 0)
@@ -106,9 +91,8 @@ module _ (n author : ℕ) where
   put_later j at previous x xs [] cs l h = refl
   put_later j at previous x xs (m ∷ ms) [] l h = refl
   put_later j at previous x xs (m ∷ ms) (c ∷ cs) l h =
-      let r = machines_next at previous m ms h in
-      let place : m - j ≡ suc (m - (j + 1)) = omega arith in
-      rw place (put_later j (at + 1) m x (set xs (m - (j + 1)) c) ms cs (omega arith) r.3)
+      let place : previous < m → m - j ≡ suc (m - (j + 1)) = λ less. omega arith in
+      grind (arith, common_steps, place, put_later j (at + 1) m x (set xs (m - (j + 1)) c) ms cs)
 
   -- the clock of pairs whose fields hold gives those pairs, and is what putting each into zeros makes
   pub pairs_back :
@@ -121,7 +105,7 @@ module _ (n author : ℕ) where
       × (counts_of (clock_of size (previous + 1) ms cs) ≡ cs)
       × (put_all (previous + 1) (replicate size 0) ms cs ≡ clock_of size (previous + 1) ms cs)
   pairs_back zero at first previous [] [] l s h k = (refl, refl, refl)
-  pairs_back zero at first previous (m ∷ ms) cs l s h k = absurd (omega (arith, machines_next at previous m ms h))
+  pairs_back zero at first previous (m ∷ ms) cs l s h k = grind (arith, common_steps)
   pairs_back size at first previous [] (c ∷ cs) l s h k = absurd (omega arith)
   pairs_back size at first previous (m ∷ ms) [] l s h k = absurd (omega arith)
   pairs_back (suc size) at first previous [] [] l s h k =

@@ -22,15 +22,12 @@ breaks_first (r ∷ rs) at h =
     ]
 
 -- the first field that breaks is the first table's, if it has one
-first_bad_append : (xs ys : List Field) → first_bad (xs ++ ys) ≡ option_or (first_bad xs) (first_bad ys)
+pub first_bad_append : (xs ys : List Field) → first_bad (xs ++ ys) ≡ option_or (first_bad xs) (first_bad ys)
 first_bad_append [] ys = refl
 first_bad_append (x ∷ xs) ys = grind (arith, common_steps, first_bad_append xs ys)
 
 pub none_parts : (front back : List Field) → first_bad (front ++ back) ≡ None → (first_bad front ≡ None) × (first_bad back ≡ None)
 none_parts front back h = grind (arith, common_steps, first_bad_append front back)
-
-pub none_joined : (front back : List Field) → first_bad front ≡ None → first_bad back ≡ None → first_bad (front ++ back) ≡ None
-none_joined front back f b = grind (arith, common_steps, first_bad_append front back)
 
 -- two tables are checked one after the other
 pub checked_append :
