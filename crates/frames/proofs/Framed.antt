@@ -35,6 +35,7 @@ module _ {Q : Type 0} (K : Kind Q) (L : Lawful K) (four : K.contribution ≡ 4) 
     abbrev Good : Frame Q → Type 0
     Good f = Valid K n f × (b ≡ spelling K f)
 
+    -- the record of the kind that was tried, as a frame
     of_layout :
         {F : Type 0} (make : F → Frame Q) (r : Result F FrameFault)
         → ((g : F) → r ≡ Ok g → Good (make g))

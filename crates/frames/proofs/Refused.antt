@@ -15,6 +15,7 @@ layout_refuses : {F : Type 0} (layout : Layout F) (e : FrameFault) → answered 
 layout_refuses layout e is = grind (arith, common_steps, breaks_first)
 
 module _ {Q : Type 0} (K : Kind Q) (n : ℕ) (b : List ℕ) where
+  -- the refusal of the kind that was tried, if it refuses
   of_layout :
       {F : Type 0} (make : F → Frame Q) (layout : Layout F)
       → ((e : FrameFault) → Refuses layout e → FirstRefusal K n b e)

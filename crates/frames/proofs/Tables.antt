@@ -1,4 +1,4 @@
--- What it says that a table of fields has no bad one, and that a layout answers.
+-- Tables of fields: which field breaks first, one table behind another, and what a layout that answers says.
 use Rattle.std.proofs.Common.{◌≡◌, ℕ, true, List, [], ◌∷◌, ◌++◌, Some, None, Ok, refl, ap, inl, inr, arith}
 use Rattle.std.specs.Option.{option_or}
 use Rattle.std.specs.Result.{result_and}
@@ -6,6 +6,7 @@ use Rattle.frames.specs.Fields.{Field, Layout, AllHold, BreaksFirst, checked, fi
 use Rattle.std.proofs.lemmas.Bool.{cases_Bool}
 use Rattle.std.proofs.lemmas.Grind.{common_steps}
 
+-- where no field breaks all hold
 pub all_hold : (table : List Field) → first_bad table ≡ None → AllHold table
 all_hold [] h = tt
 all_hold (r ∷ rs) h = (grind (arith, common_steps), all_hold rs (grind (arith, common_steps)))
@@ -26,6 +27,7 @@ pub first_bad_append : (xs ys : List Field) → first_bad (xs ++ ys) ≡ option_
 first_bad_append [] ys = refl
 first_bad_append (x ∷ xs) ys = grind (arith, common_steps, first_bad_append xs ys)
 
+-- so none of two tables breaks where none of both together does
 pub none_parts : (front back : List Field) → first_bad (front ++ back) ≡ None → (first_bad front ≡ None) × (first_bad back ≡ None)
 none_parts front back h = grind (arith, common_steps, first_bad_append front back)
 
@@ -35,6 +37,7 @@ pub checked_append :
     → unless_bad (first_bad (front ++ back)) f ≡ result_and (checked front) (result_and (checked back) (Ok f))
 checked_append {F} front back f = grind (arith, common_steps, first_bad_append front back)
 
+-- a table that is passed has no field that breaks
 pub none_bad : (table : List Field) → Ok tt ≡ checked table → first_bad table ≡ None
 none_bad table e = grind (arith, common_steps)
 
