@@ -1,9 +1,9 @@
 pub mod Changed
-pub mod Clocked
 pub mod Covered
 pub mod Filled
 pub mod Framed
 pub mod Paired
+pub mod Readings
 pub mod Refused
 pub mod Tables
 pub mod Voted

@@ -1,6 +1,7 @@
-use Rattle.std.proofs.Common.{◌+◌, length, rules}
+use Rattle.std.proofs.Common.{◌+◌, length, rules, arith}
 use Rattle.frames.proofs.Tables.{checked_append}
-use Rattle.frames.proofs.Filled.{fill_start, fill_next, fill_end}
+use Rattle.std.proofs.lemmas.Grind.{common_steps}
+use Rattle.frames.proofs.Filled.{fill_start, fill_end}
 use Rattle.std.proofs.lemmas.Slice.Zip.{Zip-more, either_empty_from_Zip}
 use Rattle.frames.proofs.change.forerunners.Goals as goal
 
@@ -13,11 +14,10 @@ loop-machine-init c =
 pub loop-machine-preserved : goal.loop-machine-preserved
 loop-machine-preserved c =
     let z = Zip-more c.loop-machine.machine-iterator c.next.new.self _ _ c.in-Some.is c.next.ensures.steps in
-    let f = fill_next _ _ _ _ _ _ _ _ z.0 z.1 c.loop-machine.invariant.fills in
-    search (rules, f)
+    let f = rw (z.0, z.1) at c.loop-machine.invariant.fills in
+    search (rules, f.0.2, f.1)
 
 pub returns : goal.returns
 returns c =
     let e = either_empty_from_Zip c.loop-machine.machine-iterator c.next.new.self _ c.in-None.is c.next.ensures.steps in
-    let f = fill_end _ _ _ _ e c.loop-machine.invariant.fills in
-    rw (checked_append, ← c.in_ok-check_machines.ensures, ← c.in_ok-check_counts.ensures, f)
+    grind (arith, common_steps, checked_append, fill_end _ _ _ _ e c.loop-machine.invariant.fills)

@@ -1,4 +1,4 @@
-use Rattle.frames.proofs.Words.{all_hold, breaks_first}
+use Rattle.frames.proofs.Tables.{all_hold, breaks_first}
 use Rattle.frames.proofs.laws.first_field_stands.Goals as goal
 
 pub returns : goal.returns
