@@ -1,5 +1,5 @@
 // Reading a change.
-ghost use Rattle.std.specs.Prelude.{◌≡◌, ◌+◌, ◌≤◌, [], ◌∷◌, ◌++◌, length};
+ghost use Rattle.std.specs.Prelude.{◌≡◌, ◌+◌, ◌*◌, ◌≤◌, ◌==◌, ◌&&◌, [], ◌∷◌, ◌++◌, length, nat_le};
 ghost use Rattle.frames.specs.Changes.{change_layout};
 ghost use Rattle.frames.specs.Clocks.{clock_of, count_fields, machine_fields};
 ghost use Rattle.frames.specs.Fields.{answered, checked, field, first_bad, unless_bad, within};
@@ -12,6 +12,13 @@ use values::mark::Mark;
 
 // Every machine but the author can have a pair.
 const MOST_PAIRS: u8 = FleetSize::MOST - 1;
+
+// Whether so many bytes stand behind the first eight as these pairs have: two for each, of at most eight.
+fn has_pairs(pairs: u8, rest: &[u8]) -> bool
+    ensures { result ≡ (nat_le pairs 8 && length rest.now == 2 * pairs) }
+{
+    pairs <= MOST_PAIRS && rest.len() == 2 * usize::from(pairs)
+}
 
 // The three fields before the pairs that have a range.
 fn check_fixed(fleet: FleetSize, author: u8, number: u8, setting: u16) -> Result<(), FrameFault>
@@ -27,7 +34,8 @@ fn check_fixed(fleet: FleetSize, author: u8, number: u8, setting: u16) -> Result
     check_field(4, setting <= Change::LAST_SETTING)
 }
 
-// Machine numbers rise within the fleet, and none is the author's. The first of them stands at offset 8.
+// Machine numbers rise within the fleet, and none is the author's. The first of them stands at offset 8. Fleet and author stay two
+// parameters: a struct of both would promise nothing, and be made for this only.
 fn check_machines(fleet: FleetSize, author: u8, machines: &[u8]) -> Result<(), FrameFault>
     requires { length machines.now ≤ 8 }
     ensures { result ≡ checked (machine_fields fleet.machines author 8 0 machines.now) }
@@ -52,7 +60,8 @@ fn check_counts(first: u8, counts: &[u8]) -> Result<(), FrameFault>
     Ok(())
 }
 
-// The clock of these pairs, once their machine numbers and then their counts keep their rules.
+// The clock of these pairs, once their machine numbers and then their counts keep their rules. In a frame all machine numbers stand in
+// front of all counts, so they come as two slices.
 #[tactic(auto, using(crate::proofs::Tables::checked_append))]
 fn forerunners(
     fleet: FleetSize,
@@ -96,7 +105,7 @@ impl Received<'_> {
         else {
             return Err(FrameFault::Length);
         };
-        if MOST_PAIRS < pairs || rest.len() != 2 * usize::from(pairs) {
+        if !has_pairs(pairs, rest) {
             return Err(FrameFault::Length);
         }
         let setting = u16::from_be_bytes([setting_high, setting_low]);
