@@ -44,7 +44,7 @@ impl<V, D: Display> Display for About<'_, Contribution<V>, D> {
     }
 }
 
-// A fill has no round to tell.
+// A fill has no round to tell, so its words stand apart: one Display for both would have to ask which it has.
 impl<V, D: Display> Display for About<'_, Fill<V>, D> {
     ghost output = { λ x. option_map (λ value. fill_words x.0.now x.1.now.ballot value x.1.now.sender) (D.output x.2) };
 

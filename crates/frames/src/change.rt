@@ -13,7 +13,7 @@ use values::mark::Mark;
 // Every machine but the author can have a pair.
 const MOST_PAIRS: u8 = FleetSize::MOST - 1;
 
-// Whether so many bytes stand behind the first eight as these pairs have: two for each, of at most eight.
+// Whether two bytes for each pair stand behind the first eight, and there are at most eight pairs.
 fn has_pairs(pairs: u8, rest: &[u8]) -> bool
     ensures { result ≡ (nat_le pairs 8 && length rest.now == 2 * pairs) }
 {

@@ -48,7 +48,7 @@ impl<V: ValueKind> Contribution<V> {
 }
 
 impl<V: ValueKind> Fill<V> {
-    // A fill has no round, so its bytes stand apart from those of a contribution, which one function would have to cut.
+    // A fill has no round, so its bytes stand apart: one function for both would have to leave the round out.
     fn bytes(&self) -> [u8; 6]
         ensures { result ≡ fill_spelling V.ValueKind.kind self.now }
     {

@@ -1,5 +1,6 @@
 // The interface of a journal: where a machine keeps its rows. Whatever stands above a journal knows only what is said here.
-ghost use Rattle.journals.specs.Journals.{Meaning, Sound, append_after, append_answer, append_check, is_row, read_after, read_answer, read_check};
+ghost use Rattle.journals.specs.Journals.{Meaning, Sound, append_after, append_answer, append_check};
+ghost use Rattle.journals.specs.Journals.{is_row, read_after, read_answer, read_check};
 ghost use Rattle.std.specs.Prelude.{◌≡◌, length, OnErr};
 
 use crate::fault::JournalFault;

@@ -1,6 +1,6 @@
 // Trials that any journal can be put to. They borrow it, so that it can be ended whatever came of them; one that finds something
-// wrong ends the test. The runtime is a parameter beside the journal, since assertions want it: a struct of both would have to be taken
-// apart again before the journal can be ended.
+// wrong ends the test. The runtime is a parameter beside the journal, since assertions want it: a struct of two borrows, made anew at
+// each call, would say no more.
 use crate::copies::Copies;
 use journals::chain::Chain;
 use journals::drum::Drum;
@@ -62,7 +62,7 @@ pub(crate) fn row(k: u32) -> [u8; 32] {
     bytes
 }
 
-// The length that append answered, or the number of the refusal: tests speak of refusals by their numbers, as docs/REFUSALS.md does.
+// The length that append answered, or the number of the refusal: it stays a number, since tests keep the values of docs/REFUSALS.md.
 pub(crate) fn append<J: Journal>(journal: &mut J, bytes: &[u8]) -> Result<u32, u8> {
     journal.append(bytes).map_err(u8::from)
 }

@@ -1,5 +1,5 @@
-// The interface of a value kind: what a ballot, a matter on which a fleet settles one value, can be about. Everything above is generic over it, and knows of a kind
-// only its meaning and the laws of that meaning.
+// The interface of a value kind: what a ballot, a matter on which a fleet settles one value, can be about.
+// Everything above is generic over it, and knows of a kind only its meaning and the laws of that meaning.
 ghost use Rattle.std.specs.Prelude.{◌≡◌, ℕ, [], ◌∷◌, if◌then◌else◌, Some, None};
 ghost use Rattle.values.specs.Kinds.{Kind, Lawful, Numbered};
 
@@ -24,8 +24,8 @@ pub trait ValueKind: Copy {
     fn is_before(self, other: Self) -> bool
         ensures { result ≡ kind.before self other };
 
-    // The two bytes of the value, the one sent first in front, and back. Which bytes read as a value depends on the fleet, so
-    // there can be no TryFrom for them, and a From for the other way would stand alone.
+    // The two bytes of the value, the one sent first in front. Which two bytes read as a value depends on the fleet, so read is no TryFrom,
+    // and a From for write would stand alone.
     fn write(self) -> [u8; 2]
         ensures { result ≡ kind.high self ∷ kind.low self ∷ [] };
 
