@@ -10,21 +10,21 @@ use Rattle.std.proofs.lemmas.List.Sums.{length-filter}
 abbrev pub kept : ℕ → Bool
 kept c = not (blank c)
 
-unblanked-filter : (line : List ℕ) → unblanked line ≡ filter kept line
-unblanked-filter [] = refl
-unblanked-filter (c ∷ line) = grind (arith, common_steps, unblanked-filter line)
+unblanked_filter : (line : List ℕ) → unblanked line ≡ filter kept line
+unblanked_filter [] = refl
+unblanked_filter (c ∷ line) = grind (arith, common_steps, unblanked_filter line)
 
-only-two : (text : List ℕ) → 2 ≤ length text → only text ≡ None
-only-two [] two = absurd (omega arith)
-only-two (c ∷ []) two = absurd (omega arith)
-only-two (c ∷ d ∷ rest) two = refl
+only_two : (text : List ℕ) → 2 ≤ length text → only text ≡ None
+only_two [] two = absurd (omega arith)
+only_two (c ∷ []) two = absurd (omega arith)
+only_two (c ∷ d ∷ rest) two = refl
 
 pub only_found :
     {E : Type 0} (r : Result ℕ E) (line : List ℕ)
     → IfOk r (λ c. filter kept line ≡ c ∷ [])
     → IfErr r (λ _. (filter kept line ≡ []) ⊎ (2 ≤ count_by kept line))
     → result_ok r ≡ only (unblanked line)
-only_found (Ok c) line one none = rw (unblanked-filter line, one) refl
-only_found (Err e) line one (inl empty) = rw (unblanked-filter line, empty) refl
+only_found (Ok c) line one none = rw (unblanked_filter line, one) refl
+only_found (Err e) line one (inl empty) = rw (unblanked_filter line, empty) refl
 only_found (Err e) line one (inr two) =
-    rw (unblanked-filter line) (sym (only-two (filter kept line) (rw (length-filter kept line) two)))
+    rw (unblanked_filter line) (sym (only_two (filter kept line) (rw (length-filter kept line) two)))
