@@ -98,6 +98,17 @@ fn a_written_change_reads_back(rt: HostRuntime) -> Result<(), Fail> {
     Ok(())
 }
 
+// Columns are copied as the forerunners are.
+#[test]
+fn columns_have_the_pairs_in_order(rt: HostRuntime) {
+    let counts = [0, 3, 1, 0, 0, 0, 0, 0, 40];
+    let columns = Forerunners { counts }.columns();
+    let copy = columns;
+    assert_eq!(rt; columns.len, 3);
+    assert_eq!(rt; copy.machines, [2, 3, 9, 0, 0, 0, 0, 0, 0]);
+    assert_eq!(rt; copy.counts, [3, 1, 40, 0, 0, 0, 0, 0, 0]);
+}
+
 #[test]
 fn faults_carry_their_numbers(rt: HostRuntime) {
     assert_eq!(rt;
