@@ -1,3 +1,4 @@
+pub mod Buffers
 pub mod Changed
 pub mod Covered
 pub mod Filled

@@ -8,12 +8,8 @@ ghost use Rattle.frames.specs.Writing.{write_answer, written};
 
 use crate::fault::BufferTooShort;
 use crate::frame::{Change, Contribution, Fill, Frame};
-use crate::pairs::Pair;
-use arrayvec::ArrayVec;
+use crate::pairs::Pairs;
 use values::kind::{QuestionKind, ValueKind};
-
-// A record can name all nine machines in its pairs; no spelling is longer than that of such a change.
-const MOST_BYTES: usize = 26;
 
 // Puts bytes at the front of the buffer, or refuses where it is too short.
 fn put(buffer: &mut [u8], bytes: &[u8]) -> Result<usize, BufferTooShort>
@@ -76,25 +72,52 @@ impl Change {
             level_low,
         ]
     }
+}
 
-    // Behind the head stand the machine numbers of all pairs, and behind them their counts.
-    fn bytes(&self) -> ArrayVec<u8, MOST_BYTES>
-        ensures { result.items ≡ change_spelling self.now }
-    {
-        let pairs = self.forerunners.pairs();
-        let pairs = pairs.as_slice();
-        let mut bytes = ArrayVec::new();
-        bytes
-            .try_extend_from_slice(&self.head(pairs.len() as u8))
-            .unwrap();
-        for Pair { machine, .. } in pairs {
-            bytes.push(*machine);
-        }
-        for Pair { count, .. } in pairs {
-            bytes.push(*count);
-        }
-        bytes
+// Puts bytes into the buffer at an offset, where there is room for them.
+fn put_at(buffer: &mut [u8], at: usize, bytes: &[u8])
+    requires { at + length bytes.now ≤ length buffer.old }
+    ensures { buffer.new ≡ take at buffer.old ++ (bytes.now ++ drop (at + length bytes.now) buffer.old) }
+{
+    buffer[at..at + bytes.len()].copy_from_slice(bytes);
+}
+
+// Puts three parts one behind the other at the front of the buffer, or refuses where it is too short.
+fn put_parts(
+    buffer: &mut [u8],
+    head: &[u8],
+    machines: &[u8],
+    counts: &[u8],
+) -> Result<usize, BufferTooShort>
+    requires { length head.now + (length machines.now + length counts.now) ≤ 26 }
+    ensures answer { result ≡ write_answer (head.now ++ (machines.now ++ counts.now)) buffer.old }
+    ensures after { buffer.new ≡ written (head.now ++ (machines.now ++ counts.now)) buffer.old }
+{
+    let second = head.len();
+    let third = second + machines.len();
+    let end = third + counts.len();
+    if buffer.len() < end {
+        return Err(BufferTooShort);
     }
+    put_at(buffer, 0, head);
+    put_at(buffer, second, machines);
+    put_at(buffer, third, counts);
+    Ok(end)
+}
+
+// Behind the head of a change stand the machine numbers of all pairs, and behind them their counts. Each part goes straight into the
+// buffer: gathered in a vector first, they took more than half as long again.
+fn write_change(change: &Change, buffer: &mut [u8]) -> Result<usize, BufferTooShort>
+    ensures answer { result ≡ write_answer (change_spelling change.now) buffer.old }
+    ensures after { buffer.new ≡ written (change_spelling change.now) buffer.old }
+{
+    let Pairs {
+        len,
+        machines,
+        counts,
+    } = change.forerunners.columns();
+    let head = change.head(len as u8);
+    put_parts(buffer, &head, &machines[0..len], &counts[0..len])
 }
 
 fn write_by_kind<Q: QuestionKind>(
@@ -105,7 +128,7 @@ fn write_by_kind<Q: QuestionKind>(
     ensures after { buffer.new ≡ written (spelling Q.ValueKind.kind frame.now) buffer.old }
 {
     match frame {
-        Frame::Change(change) => put(buffer, &change.bytes()),
+        Frame::Change(change) => write_change(change, buffer),
         Frame::PlaceContribution(c) => put(buffer, &c.bytes()),
         Frame::PlaceFill(f) => put(buffer, &f.bytes()),
         Frame::QuestionContribution(c) => put(buffer, &c.bytes()),
