@@ -26,12 +26,13 @@ fn is_right(rt: &HostRuntime, fleet: FleetSize, number: u64, line: &str) -> anyh
 fn check_table(rt: &HostRuntime, machines: u8, path: &str) -> anyhow::Result<()> {
     let fleet = FleetSize::new(machines).context("no such fleet")?;
     let table = fs::read_to_string(rt, path)?;
-    let lines: Vec<bool> = (1u64..)
-        .zip(table.lines())
-        .map(|(number, line)| is_right(rt, fleet, number, line))
-        .try_collect(rt.alloc())?;
-    let right = lines.iter().filter(|right| **right).count();
-    println!(rt; "{path}: {right} of {} right", lines.len())?;
+    let mut lines: u64 = 0;
+    let mut right: u64 = 0;
+    for (number, line) in (1u64..).zip(table.lines()) {
+        lines = number;
+        right = right.saturating_add(u64::from(is_right(rt, fleet, number, line)?));
+    }
+    println!(rt; "{path}: {right} of {lines} right")?;
     Ok(())
 }
 
