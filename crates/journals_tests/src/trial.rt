@@ -71,9 +71,9 @@ pub(crate) fn read<J: Journal>(journal: &J, k: u32, target: &mut [u8]) -> Result
     journal.read(k, target).map_err(u8::from)
 }
 
-// Row k, or the number of the refusal.
+// Row k, read over bytes of another row, or the number of the refusal.
 pub(crate) fn row_at<J: Journal>(journal: &J, k: u32) -> Result<[u8; 32], u8> {
-    let mut target = [0u8; 32];
+    let mut target = [5u8; 32];
     read(journal, k, &mut target)?;
     Ok(target)
 }
